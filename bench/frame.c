@@ -1,0 +1,142 @@
+// Counts of the frame calls: this driver runs one of them once over the first n of a fixed store of frames, so that the
+// difference between n and 2n frames is the call's own work. See bench/run.
+//
+// usage: frame rattle|c make|read|pads|single n clean|one|two
+#include "plain.h"
+
+#define STORE 8192
+
+uint8_t measured_read(uint64_t frame);
+uint64_t measured_make_list(const uint64_t *data, size_t data_len, uint64_t *frames, size_t frames_len);
+uint64_t measured_read_list(const uint64_t *frames, size_t frames_len, uint64_t *data, size_t data_len, uint8_t *verdicts,
+                            size_t verdicts_len);
+uint64_t measured_read_list_pads(const uint64_t *frames, size_t frames_len, uint64_t *data, size_t data_len, uint8_t *verdicts,
+                                 size_t verdicts_len, uint8_t *pads, size_t pads_len);
+
+static uint64_t data[STORE], frames[STORE], out[STORE];
+static uint8_t verdicts[STORE], pads[STORE];
+
+// ---- the same work in C
+
+static uint16_t bytes[8][256], corrections[4096];
+
+static uint64_t division(uint64_t v)
+{
+    uint64_t r = 0;
+    for (int i = 62; i >= 0; i--) {
+        r = r * 2 + ((v >> i) & 1);
+        if (r & 4096)
+            r ^= 0x1539;
+    }
+    return r;
+}
+
+static void tables(void)
+{
+    uint64_t spot[64];
+    for (int i = 0; i < 63; i++)
+        spot[i] = division(1ull << (62 - i));
+    spot[63] = 0;
+    for (int a = 0; a < 64; a++)
+        for (int b = a; b < 64; b++)
+            if (a < b || a == 63)
+                corrections[spot[a] ^ spot[b]] = (uint16_t)(a * 64 + b);
+    for (int k = 0; k < 8; k++)
+        for (int b = 0; b < 256; b++)
+            bytes[k][b] = (uint16_t)division((uint64_t)b << (8 * k));
+}
+
+static uint64_t with_run(uint64_t x) { return x * 2 + (1 - x % 2); }
+
+static uint64_t c_make(uint64_t d)
+{
+    uint64_t top = ((with_run(d >> 32) << 34) + (with_run((d >> 16) & 0xffff) << 17) + with_run(d & 0xffff)) << 12;
+    uint64_t w = top + division(top);
+    return w * 2 + (1 - w % 2);
+}
+
+__attribute__((noinline)) static uint64_t c_make_list(const uint64_t *d, size_t n, uint64_t *f)
+{
+    for (size_t i = 0; i < n; i++)
+        if (d[i] >> 48)
+            return 11;
+    for (size_t i = 0; i < n; i++)
+        f[i] = c_make(d[i]);
+    return 0;
+}
+
+static inline uint8_t c_read(uint64_t f, uint64_t *d, uint8_t *pad)
+{
+    uint64_t v = f >> 1, r = 0;
+    for (int k = 0; k < 8; k++)
+        r ^= bytes[k][(v >> (8 * k)) & 255];
+    uint64_t e = corrections[r];
+    *d = 0;
+    *pad = 0;
+    if (e == 0)
+        return 13;
+    uint64_t a = e / 64, b = e % 64;
+    uint64_t w = v ^ ((1ull << 62) >> a) ^ ((1ull << 62) >> b);
+    if (((w ^ (w >> 1)) & 0x400020001000) != 0x400020001000)
+        return 14;
+    *d = ((w >> 47 & 0xffff) << 32) + ((w >> 30 & 0xffff) << 16) + (w >> 13 & 0xffff);
+    *pad = f % 2 == w % 2;
+    return (uint8_t)((a != 63) + (b != 63));
+}
+
+__attribute__((noinline)) static void c_read_list(const uint64_t *f, size_t n, uint64_t *d, uint8_t *v)
+{
+    uint8_t pad;
+    for (size_t i = 0; i < n; i++)
+        v[i] = c_read(f[i], &d[i], &pad);
+}
+
+__attribute__((noinline)) static void c_read_list_pads(const uint64_t *f, size_t n, uint64_t *d, uint8_t *v, uint8_t *p)
+{
+    for (size_t i = 0; i < n; i++)
+        v[i] = c_read(f[i], &d[i], &p[i]);
+}
+
+int main(int argc, char **argv)
+{
+    if (argc != 5)
+        return puts("usage: frame rattle|c make|read|pads|single N clean|one|two"), 2;
+    int ours = !strcmp(argv[1], "rattle");
+    size_t n = strtoul(argv[3], NULL, 10);
+    int flips = !strcmp(argv[4], "one") ? 1 : !strcmp(argv[4], "two") ? 2 : 0;
+    uint64_t x = 88172645463325252ull, sum = 0;
+    if (n > STORE)
+        return 2;
+    tables();
+    for (size_t i = 0; i < STORE; i++) {
+        x ^= x << 13, x ^= x >> 7, x ^= x << 17;
+        data[i] = x >> 16;
+        frames[i] = c_make(data[i]);
+        if (flips > 0)
+            frames[i] ^= 1ull << (1 + x % 31);
+        if (flips > 1)
+            frames[i] ^= 1ull << (32 + x % 32);
+    }
+    if (!strcmp(argv[2], "make")) {
+        if (ours)
+            measured_make_list(data, n, out, STORE);
+        else
+            c_make_list(data, n, out);
+    } else if (!strcmp(argv[2], "read")) {
+        if (ours)
+            measured_read_list(frames, n, out, STORE, verdicts, STORE);
+        else
+            c_read_list(frames, n, out, verdicts);
+    } else if (!strcmp(argv[2], "pads")) {
+        if (ours)
+            measured_read_list_pads(frames, n, out, STORE, verdicts, STORE, pads, STORE);
+        else
+            c_read_list_pads(frames, n, out, verdicts, pads);
+    } else {
+        for (size_t i = 0; i < n; i++)
+            verdicts[i] = ours ? measured_read(frames[i]) : c_read(frames[i], &out[i], &pads[i]);
+    }
+    for (size_t i = 0; i < STORE; i++)
+        sum += out[i] * 31 + verdicts[i] + pads[i];
+    return printf("%llu\n", (unsigned long long)sum) < 0;
+}

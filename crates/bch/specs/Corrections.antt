@@ -1,0 +1,54 @@
+-- The table from a remainder to the places to flip, each entry a number e: the two places e / 64 < e % 64, where 63 stands for none.
+-- ┌───────────────┬────────────────────────────────────────────────────────────────┐
+-- │ spot i        │ the word with a one at position i alone; of zeros for i = 63   │
+-- │ valid e       │ e says two places, the lower first, one place or no place      │
+-- │ places e      │ the places that e says, rising                                 │
+-- │ pattern e     │ the word with ones at those places alone                       │
+-- │ Entry r e     │ e says the places whose flips leave the remainder r; it is 0   │
+-- │               │ where no places leave r                                        │
+-- │ filled t      │ how many entries of t are not 0                                │
+-- │ empty t       │ how many are 0                                                 │
+-- │ Corrections t │ t has the right entry for each remainder; 2,017 are filled     │
+-- └───────────────┴────────────────────────────────────────────────────────────────┘
+use mathlib.Core.Path.{_≡_}
+use mathlib.Core.Bool.{Bool, _||_}
+use mathlib.Core.List.{List, [], _∷_}
+use Prim.Native.Nat.{ℕ, zero, suc, _/_, _%_, _^_, _<_}
+use lib.Bits.{bitXor}
+use lib.Dec.{T, ltb, eqb}
+use lib.ListN.{length, getD}
+use Rattle.poly.specs.Poly.{rem}
+use Rattle.bch.specs.Code.{keep}
+
+abbrev pub spot : ℕ → ℕ
+spot i = 2 ^ 62 / 2 ^ i
+
+abbrev pub valid : ℕ → Bool
+valid e = ltb (e / 64) (e % 64) || eqb e 4095
+
+unfoldable pub places : ℕ → List ℕ
+places e = keep (ltb (e / 64) 63) (e / 64) (keep (ltb (e % 64) 63) (e % 64) [])
+
+unfoldable pub pattern : ℕ → ℕ
+pattern e = bitXor (spot (e / 64)) (spot (e % 64))
+
+pub record Entry (r e : ℕ) : Type 0 where
+  pub small : e < 4096
+  pub sound : (e ≡ 0 → ⊥) → T (valid e) × (rem 63 (pattern e) ≡ r)
+  pub whole : (n : ℕ) → n < 4096 → T (valid n) → rem 63 (pattern n) ≡ r → n ≡ e
+
+unfoldable pub filled : List ℕ → ℕ
+filled [] = 0
+filled (zero ∷ t) = filled t
+filled (suc e ∷ t) = suc (filled t)
+
+unfoldable pub empty : List ℕ → ℕ
+empty [] = 0
+empty (zero ∷ t) = suc (empty t)
+empty (suc e ∷ t) = empty t
+
+pub record Corrections (t : List ℕ) : Type 0 where
+  pub size : length t ≡ 4096
+  pub right : (r : ℕ) → r < 4096 → Entry r (getD t r 0)
+  pub two-thousand-and-seventeen : filled t ≡ 2017
+  pub the-rest : empty t ≡ 2079

@@ -1,0 +1,4 @@
+pub mod Truth
+pub mod Computed
+pub mod Xor
+pub mod Writing

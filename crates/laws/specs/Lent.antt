@@ -1,0 +1,21 @@
+-- What a call leaves of an output that it was lent.
+-- ┌─────────────────────────┬────────────────────────────────────────────────────────────┐
+-- │ Written R xs out₀ out k │ out is out₀ with its first k places written over: at each  │
+-- │                         │ stands a number that R allows for the element of xs there; │
+-- │                         │ from k on stands what stood there                          │
+-- │ Leaves n R xs out₀ out  │ where n is 0, the call's answer, out is written for all of │
+-- │                         │ xs; where n is a refusal, out is as it was                 │
+-- └─────────────────────────┴────────────────────────────────────────────────────────────┘
+use mathlib.Core.Path.{_≡_}
+use mathlib.Core.List.{List}
+use Prim.Native.Nat.{ℕ, _<_, _≤_}
+use lib.ListN.{length, getD}
+
+pub record Written (R : ℕ → ℕ → Type 0) (xs out₀ out : List ℕ) (k : ℕ) : Type 0 where
+  pub size : length out ≡ length out₀
+  pub here : (i : ℕ) → i < k → i < length out → R (getD xs i 0) (getD out i 0)
+  pub past : (i : ℕ) → k ≤ i → getD out i 0 ≡ getD out₀ i 0
+
+pub record Leaves (n : ℕ) (R : ℕ → ℕ → Type 0) (xs out₀ out : List ℕ) : Type 0 where
+  pub answered : n ≡ 0 → Written R xs out₀ out (length xs)
+  pub refused : (n ≡ 0 → ⊥) → out ≡ out₀

@@ -1,0 +1,4 @@
+pub mod Division
+pub mod Factors
+pub mod Turns
+pub mod ByteTables

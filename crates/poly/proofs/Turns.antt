@@ -1,0 +1,71 @@
+-- What the loops that divide do in a turn.
+-- ┌─────────────┬──────────────────────────────────────────────────────────────────┐
+-- │ taken r     │ g with its leading coefficient at x^62, where r has one there    │
+-- │ taken-lt    │ fits 64 bits                                                     │
+-- │ turn-lt     │ taking it away leaves 62 coefficients                            │
+-- │ turn-rem    │ and the remainder of what is left, k positions on, as it was     │
+-- │ byte-turn   │ a byte more of a word, from the lowest on                        │
+-- │ bytes-end   │ all eight of them                                                │
+-- └─────────────┴──────────────────────────────────────────────────────────────────┘
+use mathlib.Core.Path.{_≡_, refl, sym, ap, ap₂, _∙_}
+use Prim.Native.Nat.{ℕ, _+_, _-_, _*_, _/_, _%_, _^_, _<_, _≤_}
+use native.Mathlib.Nat.{mod-lt, mod-eq-of-lt, lt-of-lt-of-le, mul-assoc, zero-mul, one-mul, mul-div-cancel, zero-lt-suc, div-eq-of-lt}
+use native.Mathlib.Omega.{arith}
+use lib.Dec.{lit<, lit≤}
+use lib.Pow.{pow-pos, pow-add, mod-pow-add, shl-shr, shr-shr}
+use lib.Bits.{bitXor, xor-shifted, xor-comm, xor-shr, xor-zero-r}
+use Rattle.laws.proofs.Xor.{bit-ind}
+use Rattle.poly.specs.Poly.{g, rem}
+use Rattle.poly.proofs.Division.{rem-xor, rem-zero, rem-shifted}
+
+abbrev pub taken : ℕ → ℕ
+taken r = r / 2 ^ 62 * (g * 2 ^ 50)
+
+lead-lt : (r : ℕ) → r < 2 ^ 63 → r / 2 ^ 62 < 2
+lead-lt r h = omega arith
+
+pub taken-lt : (r : ℕ) → r < 2 ^ 63 → taken r < 2 ^ 64
+taken-lt r h = omega (arith, lead-lt r h)
+
+pub turn-lt : (r : ℕ) → r < 2 ^ 63 → bitXor r (taken r) < 2 ^ 62
+turn-lt r h =
+    below (bitXor r (taken r))
+    (xor-shr r (taken r) 62 ∙ bit-ind (λ c. bitXor c (c * (g * 2 ^ 50) / 2 ^ 62) ≡ 0) refl refl (r / 2 ^ 62) (lead-lt r h))
+  where
+    below : (x : ℕ) → x / 2 ^ 62 ≡ 0 → x < 2 ^ 62
+    below x e = omega arith
+
+-- g is taken away at a position that is there
+moved : (k : ℕ) → k < 51 → g * 2 ^ 50 / 2 ^ k ≡ g * 2 ^ (50 - k)
+moved k h =
+    ap (λ (x : ℕ). g * x / 2 ^ k) (ap (λ (i : ℕ). 2 ^ i) (let e : 50 ≡ (50 - k) + k = omega arith in e) ∙ pow-add 2 (50 - k) k)
+    ∙ ap (λ (x : ℕ). x / 2 ^ k) (sym (mul-assoc g (2 ^ (50 - k)) (2 ^ k)))
+    ∙ shl-shr (g * 2 ^ (50 - k)) k
+
+pub turn-rem : (k r : ℕ) → k < 51 → r < 2 ^ 63 → rem 63 (bitXor r (taken r) * 2 / 2 ^ (k + 1)) ≡ rem 63 (r / 2 ^ k)
+turn-rem k r h l =
+    ap (rem 63)
+    (ap (λ (i : ℕ). bitXor r (taken r) * 2 / 2 ^ i) (let e : k + 1 ≡ 1 + k = omega arith in e)
+    ∙ sym (shr-shr (bitXor r (taken r) * 2) 1 k)
+    ∙ ap (λ (x : ℕ). x / 2 ^ k) (mul-div-cancel (bitXor r (taken r)) (zero-lt-suc 1))
+    ∙ xor-shr r (taken r) k)
+    ∙ rem-xor 63 (r / 2 ^ k) (taken r / 2 ^ k)
+    ∙ ap (bitXor (rem 63 (r / 2 ^ k)))
+    (bit-ind (λ c. rem 63 (c * (g * 2 ^ 50) / 2 ^ k) ≡ 0)
+    (ap (rem 63) (div-eq-of-lt (pow-pos k)) ∙ rem-zero 63)
+    (ap (rem 63) (moved k h) ∙ rem-shifted (50 - k) 63 (omega arith))
+    (r / 2 ^ 62) (lead-lt r l))
+    ∙ xor-zero-r (rem 63 (r / 2 ^ k))
+
+pub byte-turn : (n k v : ℕ)
+    → bitXor (rem n (v % 2 ^ (k * 8))) (rem n (v / 2 ^ (k * 8) % 256 * 2 ^ (k * 8))) ≡ rem n (v % 2 ^ ((k + 1) * 8))
+byte-turn n k v =
+    sym (rem-xor n (v % 2 ^ (k * 8)) (v / 2 ^ (k * 8) % 256 * 2 ^ (k * 8)))
+    ∙ ap (rem n)
+    (xor-comm (v % 2 ^ (k * 8)) (v / 2 ^ (k * 8) % 256 * 2 ^ (k * 8))
+    ∙ xor-shifted (v / 2 ^ (k * 8) % 256) (k * 8) (v % 2 ^ (k * 8)) (mod-lt v (pow-pos (k * 8)))
+    ∙ sym (mod-pow-add v 8 (k * 8))
+    ∙ ap (λ (i : ℕ). v % 2 ^ i) (let e : 8 + k * 8 ≡ (k + 1) * 8 = omega arith in e))
+
+pub bytes-end : (k v : ℕ) → k ≡ 8 → v < 2 ^ 63 → rem 63 (v % 2 ^ (k * 8)) ≡ rem 63 v
+bytes-end k v e h = ap (λ (n : ℕ). rem 63 (v % 2 ^ (n * 8))) e ∙ ap (rem 63) (mod-eq-of-lt (lt-of-lt-of-le {m = 2 ^ 63} h (lit≤ tt)))

@@ -1,0 +1,29 @@
+// Division by g = x^12 + x^10 + x^8 + x^5 + x^4 + x^3 + 1 of polynomials over two elements, held as numbers.
+ghost use mathlib.Core.Path.{_≡_};
+ghost use Rattle.poly.specs.Poly.{rem};
+ghost use Rattle.poly.specs.Bytes.{ByteTable};
+
+mod bytes;
+
+const G: u64 = 0x1539;
+
+// The remainder by g of the 63 low coefficients of v, by long division, one position after another: wherever the leading coefficient,
+// that of x^62, is one, g is taken away with its own there, and what is left moves on by one position.
+pub fn remainder(v: u64) -> u64
+    ensures { λ r. ⌜ r ≡ rem 63 v ⌝ }
+{
+    let mut left = v % 0x8000_0000_0000_0000;
+    let mut k: u64 = 0;
+    while k < 51 {
+        left = (left ^ (left / 0x4000_0000_0000_0000 * (G * 0x4_0000_0000_0000))) * 2;
+        k += 1;
+    }
+    left / 0x8_0000_0000_0000
+}
+
+// The remainders of single bytes. Whoever divides many words takes the table once and lends it on: each call writes it anew.
+pub fn byte_remainders() -> [u16; 2048]
+    ensures { λ t. ⌜ ByteTable t ⌝ }
+{
+    bytes::BYTES
+}

@@ -18,7 +18,7 @@ use Rattle.laws.proofs.Truth.{and-l, and-r, or-r, implied}
 use Rattle.laws.proofs.Computed.{at, every, upto, below}
 use Rattle.poly.specs.Poly.{rem}
 use Rattle.poly.proofs.Division.{rem-lt}
-use Rattle.bch.specs.Corrections.{valid, pattern, Entry, filled, empty, Corrections}
+use Rattle.bch.specs.Corrections.{valid, pattern, Entry, filled, empty, filledEntries, emptyEntries, Corrections}
 use Rattle.bch.proofs.Spots.{quick, quick-right}
 
 unfoldable pub sound? : ℕ → ℕ → Bool
@@ -74,8 +74,8 @@ module _ (xs : List ℕ) (len : length xs ≡ 4096) (test : T (right? xs)) where
         whole = λ n hn t q. sym (finds n hn t) ∙ ap (λ (x : ℕ). getD xs x 0) (sym (quick-right n hn) ∙ q);
       }
 
-  pub is-corrections : filled xs ≡ 2017 → empty xs ≡ 2079 → Corrections xs
-  is-corrections f e = record { size = len; right = entry-in; two-thousand-and-seventeen = f; the-rest = e }
+  pub is-corrections : filled xs ≡ filledEntries → empty xs ≡ emptyEntries → Corrections xs
+  is-corrections f e = record { size = len; right = entry-in; some = f; none = e }
 
 pub one-entry : (r d e : ℕ) → Entry r d → Entry r e → d ≡ e
 one-entry r d e p q = by (ℕ-discrete d 0) (ℕ-discrete e 0)

@@ -8,7 +8,9 @@
 -- │               │ where no places leave r                                        │
 -- │ filled t      │ how many entries of t are not 0                                │
 -- │ empty t       │ how many are 0                                                 │
--- │ Corrections t │ t has the right entry for each remainder; 2,017 are filled     │
+-- │ filledEntries │ 2,017: one for no flip, 63 for one and 1,953 for two           │
+-- │ emptyEntries  │ 2,079: the other remainders                                    │
+-- │ Corrections t │ t has the right entry for each remainder, so many of each kind │
 -- └───────────────┴────────────────────────────────────────────────────────────────┘
 use mathlib.Core.Path.{_≡_}
 use mathlib.Core.Bool.{Bool, _||_}
@@ -47,8 +49,14 @@ empty [] = 0
 empty (zero ∷ t) = suc (empty t)
 empty (suc e ∷ t) = empty t
 
+abbrev pub filledEntries : ℕ
+filledEntries = 2017
+
+abbrev pub emptyEntries : ℕ
+emptyEntries = 2079
+
 pub record Corrections (t : List ℕ) : Type 0 where
   pub size : length t ≡ 4096
   pub right : (r : ℕ) → r < 4096 → Entry r (getD t r 0)
-  pub two-thousand-and-seventeen : filled t ≡ 2017
-  pub the-rest : empty t ≡ 2079
+  pub some : filled t ≡ filledEntries
+  pub none : empty t ≡ emptyEntries

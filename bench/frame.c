@@ -22,13 +22,10 @@ static uint16_t bytes[8][256], corrections[4096];
 
 static uint64_t division(uint64_t v)
 {
-    uint64_t r = 0;
-    for (int i = 62; i >= 0; i--) {
-        r = r * 2 + ((v >> i) & 1);
-        if (r & 4096)
-            r ^= 0x1539;
-    }
-    return r;
+    uint64_t left = v % (1ull << 63);
+    for (int k = 0; k < 51; k++)
+        left = (left ^ (left >> 62) * (0x1539ull << 50)) * 2;
+    return left >> 51;
 }
 
 static void tables(void)

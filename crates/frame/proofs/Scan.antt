@@ -5,17 +5,17 @@
 -- │ large-nowhere │ past the end it stands nowhere                                 │
 -- │ none-large    │ where it stands nowhere, each value is a data word             │
 -- └───────────────┴────────────────────────────────────────────────────────────────┘
-use mathlib.Core.Path.{_≡_, sym, ap, _∙_, subst}
-use mathlib.Core.Bool.{Bool, true, false, _||_}
+use mathlib.Core.Path.{_≡_}
+use mathlib.Core.Bool.{true, false}
 use mathlib.Core.List.{List, [], _∷_}
 use Prim.Native.Nat.{ℕ, zero, suc, _+_, _^_, _<_, _≤_}
 use native.Mathlib.Nat.{not-suc-le-zero, le-of-suc-le-suc}
 use native.Mathlib.Numerals.{add-one}
 use native.Mathlib.Omega.{arith}
 use borrow.Author.Tests.{le-leb, lt-leb, leb-false}
-use lib.Dec.{T}
 use lib.ListN.{length, getD, drop}
 use lib.Seq.{drop-cons, drop-length}
+use Rattle.laws.proofs.Truth.{neither}
 use Rattle.frame.specs.Makes.{tooLarge}
 use Rattle.frame.specs.Lists.{anyTooLarge}
 
@@ -32,16 +32,8 @@ module _ (l : List ℕ) (i : ℕ) where
   unfolding anyTooLarge
   large-nowhere h k = let e : i ≡ length l = omega arith in rw (e, drop-length)
 
-neither-l : (a b : Bool) → a || b ≡ false → a ≡ false
-neither-l true b e = e
-neither-l false b e = λ i. false
-
-neither-r : (a b : Bool) → a || b ≡ false → b ≡ false
-neither-r true b e = absurd (subst T e tt)
-neither-r false b e = e
-
 pub none-large : (l : List ℕ) (i : ℕ) → anyTooLarge l ≡ false → i < length l → getD l i 0 < 2 ^ 48
 unfolding anyTooLarge
 none-large [] i e h = absurd (not-suc-le-zero h)
-none-large (d ∷ l) zero e h = leb-false (2 ^ 48) d (neither-l (tooLarge d) (anyTooLarge l) e)
-none-large (d ∷ l) (suc i) e h = none-large l i (neither-r (tooLarge d) (anyTooLarge l) e) (le-of-suc-le-suc h)
+none-large (d ∷ l) zero e h = leb-false (2 ^ 48) d (neither (tooLarge d) (anyTooLarge l) e .0)
+none-large (d ∷ l) (suc i) e h = none-large l i (neither (tooLarge d) (anyTooLarge l) e .1) (le-of-suc-le-suc h)

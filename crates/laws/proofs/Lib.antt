@@ -1,4 +1,5 @@
 pub mod Truth
 pub mod Computed
 pub mod Xor
+pub mod Front
 pub mod Writing

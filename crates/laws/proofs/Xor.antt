@@ -2,6 +2,7 @@
 -- ┌─────────────┬──────────────────────────────────────────────────────────────────┐
 -- │ bit-lt      │ n % 2 < 2                                                        │
 -- │ bit-ind     │ what holds of 0 and of 1 holds of each digit                     │
+-- │ differ-sum  │ two digits differ: their sum mod 2                               │
 -- │ xor-half    │ half of a sum                                                    │
 -- │ xor-odd     │ last digit of a sum                                              │
 -- │ xor-digit   │ one more digit on each side                                      │
@@ -34,6 +35,11 @@ differ-assoc x y z hx hy hz =
     bit-ind (λ x. differ (differ x y) z ≡ differ x (differ y z)) refl
     (bit-ind (λ y. differ (differ 1 y) z ≡ differ 1 (differ y z)) refl
     (bit-ind (λ z. z ≡ differ 1 (differ 1 z)) refl refl z hz) y hy) x hx
+
+pub differ-sum : (x y : ℕ) → x < 2 → y < 2 → differ x y ≡ (x + y) % 2
+differ-sum x y hx hy =
+    bit-ind (λ x. differ x y ≡ (x + y) % 2) (bit-ind (λ y. y ≡ (0 + y) % 2) refl refl y hy)
+    (bit-ind (λ y. differ 1 y ≡ (1 + y) % 2) refl refl y hy) x hx
 
 pub xor-half : (a b : ℕ) → bitXor a b / 2 ≡ bitXor (a / 2) (b / 2)
 xor-half a b = xor-shr a b 1

@@ -1,5 +1,5 @@
 -- The starred rows, proved: each result meets the contract, and the contract leaves one answer.
-use mathlib.Core.Path.{refl}
+use mathlib.Core.Path.{_≡_, refl, subst}
 use mathlib.Core.Logic.{inl}
 use Prim.Native.Nat.{ℕ, _/_, _^_}
 use lib.Dec.{T, ltb, lit<, lit≤}
@@ -15,7 +15,18 @@ use Rattle.frame.specs.declared.Making.the-variants.{Frame}
 use Rattle.frame.proofs.Maker.{makes-frame}
 use Rattle.frame.proofs.Demands.{one-answer, still-line}
 use Rattle.frame.proofs.OneAnswer.{one-making}
-use Rattle.rows.specs.Rows.{makes, reads, Rows}
+use Rattle.hier.specs.Symbols.{gap}
+use Rattle.hier.specs.Blocks.{blockOf}
+use Rattle.hier.specs.Inside.{nearOf, kindOf, solved}
+use Rattle.hier.specs.declared.Coded.the-variants.{Block, NotMade}
+use Rattle.hier.specs.declared.Reading.the-variants.{Word, NoBlock, Eighth}
+use Rattle.hier.proofs.Answers.{one-make, one-read, reads-at}
+use Rattle.bus.specs.Wires.{apart, inverted}
+use Rattle.bus.specs.Calls.{Starts, Sends}
+use Rattle.bus.specs.declared.Bus.{Bus}
+use Rattle.bus.specs.declared.Driven.the-variants.{Now}
+use Rattle.bus.proofs.Answers.{one-start, one-send}
+use Rattle.rows.specs.Rows.{makes, reads, sends, Rows}
 
 -- a word that leaves nothing and whose run bits are right is lawful
 lawful-0 : Lawful 0x0000400020001AB2
@@ -29,11 +40,24 @@ lawful-ones = record { code = rem→divisible 51 0x7FFFBFFFDFFFE54D (lit< tt) re
 made : (d f : ℕ) → T (ltb d (2 ^ 48)) → FrameOf d f → makes d f
 made d f h p m q = one-making d m (Frame f) q (makes-frame d f (lit< h) p)
 
+-- a bus of width 4 at rest
+rest : Bus
+rest = record { width = 4; wires = 0; invert = 0 }
+
 read : (f : ℕ) (a : Answer) → T (ltb f (2 ^ 64)) → Reads f a → reads f a
 read f a h p r q = one-answer f (lit< h) (answer r) a q p
 
+drives : (y x v : ℕ) → Sends rest y (Now (record { width = 4; wires = x; invert = v })) → sends y x v
+unfolding rest
+drives y x v p b r s q =
+    let e : b ≡ rest = same b (one-start 4 (Now b) (Now rest) s (record { number = refl; state = refl })) in
+    one-send rest y r (Now (record { width = 4; wires = x; invert = v })) (subst (λ (a : Bus). Sends a y r) e q) p
+  where
+    same : (b : Bus) → Now b ≡ Now rest → b ≡ rest
+    same b e = cc
+
 pub rows : Rows
-unfolding rem dataOf differing table
+unfolding rem dataOf differing table blockOf gap nearOf kindOf solved apart inverted rest
 rows =
     record {
       data-0 = made 0 0x0000800040003565 tt (record { lawful = lawful-0; carries = refl; pad = refl });
@@ -46,4 +70,15 @@ rows =
           (record { sent = 0x0000400020001AB2; lawful = lawful-0; flips = refl; few = lit≤ tt; carries = refl; padded = refl });
       all-zeros = λ r q. still-line 0 (answer r) q .0 refl;
       all-ones = λ r q. still-line 0xFFFFFFFFFFFFFFFF (answer r) q .1 refl;
+      block-0 = λ m q. one-make 0 m (Block 0x3333) q (record { number = refl; block = refl });
+      block-127 = λ m q. one-make 127 m (Block 0x9ACA) q (record { number = refl; block = refl });
+      block-128 = λ m q. one-make 128 m NotMade q (record { number = refl; block = tt });
+      not-made-is-11 = refl;
+      one-bit = λ s q. one-read 0x3331 s (Word 0 1) q (reads-at 0x3331);
+      two-away = λ s q. one-read 0x3335 s NoBlock q (reads-at 0x3335);
+      no-block-is-15 = refl;
+      v-is-8 = λ s q. one-read 0x6653 s Eighth q (reads-at 0x6653);
+      eighth-is-16 = refl;
+      bus-0011 = drives 0b0011 0b0011 0 (record { number = refl; state = refl });
+      bus-0111 = drives 0b0111 0b1000 1 (record { number = refl; state = refl });
     }

@@ -1,0 +1,51 @@
+-- The wires that differ, counted by index, by halves, and as ones of the exclusive-or. Once over the width.
+-- ┌─────────────┬───────────────────────────────────────────────────────────────────┐
+-- │ apart-half  │ the lowest wire apart, and the others by halves                   │
+-- │ count-apart │ what `count_ones` of the exclusive-or counts                      │
+-- └─────────────┴───────────────────────────────────────────────────────────────────┘
+use mathlib.Core.Path.{_≡_, refl, sym, ap, ap₂, _∙_}
+use Prim.Native.Nat.{ℕ, zero, suc, _+_, _/_, _%_, _^_, _<_}
+use native.Mathlib.Nat.{pow-suc, add-left-comm}
+use native.Mathlib.Omega.{arith}
+use lib.Pow.{shr-shr}
+use lib.Bits.{bitXor, differ}
+use lib.Count.{ones, ones-step}
+use Rattle.laws.proofs.Xor.{bit-lt, bit-ind, xor-half, xor-odd}
+use Rattle.bus.specs.Wires.{wire, unlike, apart}
+use Rattle.bus.specs.Claims.{CountIsApart}
+
+-- wire n of the upper half is wire n + 1
+half-wire : (x n : ℕ) → wire (x / 2) n ≡ wire x (suc n)
+half-wire x n = ap (λ (z : ℕ). z % 2) (shr-shr x 1 n ∙ ap (λ (k : ℕ). x / 2 ^ k) (omega arith))
+
+low-wire : (x : ℕ) → wire x 0 ≡ x % 2
+low-wire x = omega arith
+
+pub apart-half : (n x y : ℕ) → apart (suc n) x y ≡ unlike (x % 2) (y % 2) + apart n (x / 2) (y / 2)
+unfolding apart
+apart-half zero x y = ap₂ (λ (a b : ℕ). unlike a b + 0) (low-wire x) (low-wire y)
+apart-half (suc n) x y =
+    ap (λ (k : ℕ). unlike (wire x (suc n)) (wire y (suc n)) + k) (apart-half n x y)
+    ∙ add-left-comm _ _ _
+    ∙ ap₂ (λ (a b : ℕ). unlike (x % 2) (y % 2) + (unlike a b + apart n (x / 2) (y / 2))) (sym (half-wire x n)) (sym (half-wire y n))
+
+differ-unlike : (x y : ℕ) → differ (x % 2) (y % 2) ≡ unlike (x % 2) (y % 2)
+differ-unlike x y =
+    bit-ind (λ a. differ a (y % 2) ≡ unlike a (y % 2)) (bit-ind (λ b. b ≡ unlike 0 b) refl refl (y % 2) (bit-lt y))
+    (bit-ind (λ b. differ 1 b ≡ unlike 1 b) refl refl (y % 2) (bit-lt y)) (x % 2) (bit-lt x)
+
+none : (x y : ℕ) → ones (bitXor 0 0) ≡ apart 0 x y
+unfolding ones apart
+none x y = refl
+
+pub count-apart : CountIsApart
+count-apart zero x y h k =
+    let X : x ≡ 0 = omega arith in
+    let Y : y ≡ 0 = omega arith in
+    ap₂ (λ (a b : ℕ). ones (bitXor a b)) X Y ∙ none x y
+count-apart (suc w) x y h k =
+    let X : x / 2 < 2 ^ w = omega (arith, pow-suc 2 w) in
+    let Y : y / 2 < 2 ^ w = omega (arith, pow-suc 2 w) in
+    ones-step (bitXor x y)
+    ∙ ap₂ (λ (a b : ℕ). a + b) (xor-odd x y ∙ differ-unlike x y) (ap ones (xor-half x y) ∙ count-apart w (x / 2) (y / 2) X Y)
+    ∙ sym (apart-half w x y)

@@ -1,0 +1,5 @@
+pub mod Range
+pub mod Apart
+pub mod Inverse
+pub mod Answers
+pub mod Theorems

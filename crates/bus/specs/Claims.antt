@@ -1,0 +1,35 @@
+-- What is proved of the bus beside its contracts, each once over the width.
+-- ┌──────────────┬──────────────────────────────────────────────────────────────────┐
+-- │ CountIsApart │ ones in the exclusive-or are the wires that differ               │
+-- │ BeginsLawful │ a fresh state is in range                                        │
+-- │ StaysLawful  │ what is sent is in range, so the next call takes it              │
+-- │ HalfAtMost   │ at most half of the wires, rounded down, change in a step        │
+-- │ Undoes       │ the receiver answers the data that was sent, from every state    │
+-- └──────────────┴──────────────────────────────────────────────────────────────────┘
+use mathlib.Core.Path.{_≡_}
+use mathlib.Core.Bool.{true}
+use Prim.Native.Nat.{ℕ, _/_, _^_, _<_, _≤_}
+use lib.Bits.{bitXor}
+use lib.Count.{ones}
+use Rattle.bus.specs.declared.Bus.{Bus}
+use Rattle.bus.specs.declared.Driven.the-variants.{Now}
+use Rattle.bus.specs.declared.Received.{Received}
+use Rattle.bus.specs.declared.Received.the-variants.{Word}
+use Rattle.bus.specs.Wires.{apart}
+use Rattle.bus.specs.Rule.{lawful}
+use Rattle.bus.specs.Calls.{Starts, Sends, Receives}
+
+abbrev pub CountIsApart : Type 0
+CountIsApart = (w x y : ℕ) → x < 2 ^ w → y < 2 ^ w → ones (bitXor x y) ≡ apart w x y
+
+abbrev pub BeginsLawful : Type 0
+BeginsLawful = (w : ℕ) (b : Bus) → Starts w (Now b) → lawful (b .width) (b .wires) (b .invert) ≡ true
+
+abbrev pub StaysLawful : Type 0
+StaysLawful = (b n : Bus) (y : ℕ) → Sends b y (Now n) → lawful (n .width) (n .wires) (n .invert) ≡ true
+
+abbrev pub HalfAtMost : Type 0
+HalfAtMost = (b n : Bus) (y : ℕ) → Sends b y (Now n) → apart (b .width) (b .wires) (n .wires) ≤ b .width / 2
+
+abbrev pub Undoes : Type 0
+Undoes = (b n : Bus) (y : ℕ) (r : Received) → Sends b y (Now n) → Receives (n .width) (n .wires) (n .invert) r → r ≡ Word y

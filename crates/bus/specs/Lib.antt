@@ -1,0 +1,4 @@
+pub mod Wires
+pub mod Rule
+pub mod Calls
+pub mod Claims

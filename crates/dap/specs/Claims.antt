@@ -1,0 +1,48 @@
+-- What is proved of the calls beside their contracts.
+-- ┌──────────────┬──────────────────────────────────────────────────────────────────┐
+-- │ Copies       │ what `make` leaves: the data at the start of both outputs, its   │
+-- │              │ parity, and a size that the reader takes                         │
+-- │ Came d a b p │ what came of data d: nothing damaged, or one bit of a copy, or   │
+-- │              │ the parity                                                       │
+-- │ harmed       │ the number of what was damaged                                   │
+-- │ Names        │ the verdict names it                                             │
+-- │ HandsBack    │ the bytes handed back are the sender's                           │
+-- │ Agrees       │ of copies that differ in one bit, the good one is the one whose  │
+-- │              │ parity agrees                                                    │
+-- └──────────────┴──────────────────────────────────────────────────────────────────┘
+use mathlib.Core.Path.{_≡_}
+use mathlib.Core.Bool.{true}
+use mathlib.Core.List.{List}
+use Prim.Native.Nat.{ℕ, _-_, _<_}
+use lib.ListN.{length, take}
+use denote.Ref.{RefT, now}
+use Rattle.dap.specs.Copies.{sized, parityOf, flipAt}
+use Rattle.dap.specs.Calls.{verdictNumber, Hands}
+
+pub record Copies (d x₁ x₂ : List ℕ) (p : ℕ) : Type 0 where
+  pub size : sized d ≡ true
+  pub first : take (length d) x₁ ≡ d
+  pub second : take (length d) x₂ ≡ d
+  pub parity : p ≡ parityOf d
+
+pub data Came (d a b : List ℕ) (p : ℕ) : Type 0 where
+  whole : a ≡ d → b ≡ d → p ≡ parityOf d → Came d a b p
+  first : (k j : ℕ) → k < length d → j < 8 → a ≡ flipAt k j d → b ≡ d → p ≡ parityOf d → Came d a b p
+  second : (k j : ℕ) → k < length d → j < 8 → a ≡ d → b ≡ flipAt k j d → p ≡ parityOf d → Came d a b p
+  parity : a ≡ d → b ≡ d → p ≡ 1 - parityOf d → Came d a b p
+
+abbrev pub harmed : {d a b : List ℕ} {p : ℕ} → Came d a b p → ℕ
+harmed (whole x y z) = 0
+harmed (first k j s t x y z) = 1
+harmed (second k j s t x y z) = 2
+harmed (parity x y z) = 3
+
+abbrev pub Names : Type 0
+Names = (d a b : List ℕ) (p : ℕ) → sized d ≡ true → (h : Came d a b p) → verdictNumber a b p ≡ harmed h
+
+abbrev pub HandsBack : Type 0
+HandsBack = (d : List ℕ) (a b r : RefT (List ℕ)) (p : ℕ) → sized d ≡ true → Came d (now a) (now b) p → Hands a b p r → now r ≡ d
+
+pub record Agrees (a b : List ℕ) (p : ℕ) : Type 0 where
+  pub first : verdictNumber a b p ≡ 2 → parityOf a ≡ p
+  pub second : verdictNumber a b p ≡ 1 → parityOf b ≡ p

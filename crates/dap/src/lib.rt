@@ -1,0 +1,170 @@
+// Duplicate-add-parity: two copies of up to 64 bytes and the parity of one, by which a single damaged bit is found.
+ghost use mathlib.Core.Path.{_≡_};
+ghost use mathlib.Core.List.{[], _++_};
+ghost use Prim.Native.Nat.{_≤_};
+ghost use lib.ListN.{length, drop};
+ghost use denote.Ref.{ptr};
+ghost use Rattle.dap.specs.Copies.{weight, diffs};
+ghost use Rattle.dap.specs.Calls.{madeNumber, numberOf, Makes, Judges, Hands};
+
+// The parity of what was copied, or row 12.
+pub enum Made {
+    Parity(u8),
+    NotMade,
+}
+
+// What is damaged; or rows 12, 11 and 17.
+pub enum Damage {
+    Nothing,
+    FirstCopy,
+    SecondCopy,
+    ParityNumber,
+    WrongLength,
+    NoParity,
+    TooManyBits,
+}
+
+impl Made {
+    // The paper's number of the answer, 0 where it is a parity.
+    pub fn number(self) -> u8
+        ensures { λ r. ⌜ r ≡ madeNumber self ⌝ }
+    {
+        match self {
+            Made::Parity(_) => 0,
+            Made::NotMade => 12,
+        }
+    }
+}
+
+impl Damage {
+    // The number of the verdict: 0 to 3 for what is damaged, or the paper's refusal.
+    pub fn number(self) -> u8
+        ensures { λ r. ⌜ r ≡ numberOf self ⌝ }
+    {
+        match self {
+            Damage::Nothing => 0,
+            Damage::FirstCopy => 1,
+            Damage::SecondCopy => 2,
+            Damage::ParityNumber => 3,
+            Damage::WrongLength => 12,
+            Damage::NoParity => 11,
+            Damage::TooManyBits => 17,
+        }
+    }
+}
+
+// The ones of a copy.
+fn weigh(a: &[u8]) -> u32
+    requires { ⌜ length (now a) ≤ 64 ⌝ }
+    ensures { λ r. ⌜ r ≡ weight (now (a .entry)) ⌝ }
+{
+    let mut n = 0u32;
+    let mut i = 0;
+    while i < a.len() {
+        n += u8::count_ones(a[i]);
+        i += 1;
+    }
+    n
+}
+
+// At how many bits two copies differ.
+fn differing(a: &[u8], b: &[u8]) -> u32
+    requires { ⌜ (length (now a) ≤ 64) × (length (now a) ≡ length (now b)) ⌝ }
+    ensures { λ r. ⌜ r ≡ diffs (now (a .entry)) (now (b .entry)) ⌝ }
+{
+    let mut n = 0u32;
+    let mut i = 0;
+    while i < a.len() {
+        n += u8::count_ones(a[i] ^ b[i]);
+        i += 1;
+    }
+    n
+}
+
+// The data at the start of a lent output.
+fn copy(data: &[u8], out: &mut [u8])
+    requires { ⌜ length (now «data») ≤ length (now out) ⌝ }
+    ensures { λ _. ⌜ now (out .exit) ≡ now («data» .entry) ++ drop (length (now («data» .entry))) (now (out .entry)) ⌝ }
+{
+    let mut i = 0;
+    while i < data.len() {
+        out[i] = data[i];
+        i += 1;
+    }
+}
+
+// Copies the data to the start of both outputs and answers its parity.
+pub fn make(data: &[u8], first: &mut [u8], second: &mut [u8]) -> Made
+    ensures { λ r. ⌜ Makes (now («data» .entry)) (now (first .entry)) (now (second .entry)) r (now (first .exit)) (now (second .exit)) ⌝ }
+{
+    if data.len() < 1 {
+        return Made::NotMade;
+    }
+    if 64 < data.len() {
+        return Made::NotMade;
+    }
+    if first.len() < data.len() {
+        return Made::NotMade;
+    }
+    if second.len() < data.len() {
+        return Made::NotMade;
+    }
+    copy(data, first);
+    copy(data, second);
+    Made::Parity((weigh(data) % 2) as u8)
+}
+
+// What is damaged among two copies and their parity.
+pub fn verdict(a: &[u8], b: &[u8], parity: u8) -> Damage
+    ensures { λ r. ⌜ Judges (now (a .entry)) (now (b .entry)) parity r ⌝ }
+{
+    if a.len() < 1 {
+        return Damage::WrongLength;
+    }
+    if 64 < a.len() {
+        return Damage::WrongLength;
+    }
+    if a.len() != b.len() {
+        return Damage::WrongLength;
+    }
+    if 1 < parity {
+        return Damage::NoParity;
+    }
+    let apart = differing(a, b);
+    if 1 < apart {
+        return Damage::TooManyBits;
+    }
+    let agrees = weigh(a) % 2 == parity as u32;
+    if apart == 0 {
+        if agrees {
+            return Damage::Nothing;
+        }
+        return Damage::ParityNumber;
+    }
+    if agrees {
+        return Damage::SecondCopy;
+    }
+    Damage::FirstCopy
+}
+
+// The empty part of a slice, at its start.
+fn empty_part<'a>(a: &'a [u8]) -> &'a [u8]
+    ensures { λ r. ⌜ (now r ≡ []) × (ptr r ≡ ptr (a .entry)) ⌝ }
+{
+    &a[0..0]
+}
+
+// The good copy itself, the lent one; where the verdict refuses, the empty part of the first.
+pub fn good<'a>(a: &'a [u8], b: &'a [u8], parity: u8) -> &'a [u8]
+    ensures { λ r. ⌜ Hands (a .entry) (b .entry) parity r ⌝ }
+{
+    match verdict(a, b, parity) {
+        Damage::Nothing => a,
+        Damage::FirstCopy => b,
+        Damage::SecondCopy => a,
+        Damage::ParityNumber => a,
+        Damage::WrongLength => empty_part(a),
+        Damage::NoParity => empty_part(a),
+        Damage::TooManyBits => empty_part(a),
+    }
+}

@@ -1,0 +1,6 @@
+pub mod Laws
+pub mod Tables
+pub mod Parts
+pub mod Choice
+pub mod Answers
+pub mod Theorems

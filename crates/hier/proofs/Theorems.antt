@@ -1,0 +1,49 @@
+-- What specs/Claims states of the calls, proved. (That there is never a second block is in Answers.)
+-- ┌────────────┬────────────────────────────────────────────────────────────────────┐
+-- │ mends      │ made, then damaged in at most two symbols by one bit: read right   │
+-- │ round-trip │ made and unharmed: read right, with no flip                        │
+-- └────────────┴────────────────────────────────────────────────────────────────────┘
+use mathlib.Core.Path.{_≡_, refl, ap, ap₂, _∙_, subst}
+use mathlib.Core.Bool.{Bool, true, false, cond}
+use Prim.Native.Nat.{ℕ, _+_}
+use native.Mathlib.Omega.{arith}
+use borrow.Author.Tests.{eq-eqb, eqb-false, ltb-true}
+use Rattle.hier.specs.declared.Reading.the-variants.{Word}
+use Rattle.hier.specs.Symbols.{bit, unlike, gap}
+use Rattle.hier.specs.Blocks.{symbol, flips, Near}
+use Rattle.hier.specs.Calls.{row11}
+use Rattle.hier.specs.Claims.{Mends, RoundTrip}
+use Rattle.hier.proofs.Answers.{reads-word, one-read}
+
+accepted : (t : Bool) → 0 ≡ row11 t → t ≡ true
+accepted true e = refl
+accepted false e = absurd (eqb-false 0 11 refl e)
+
+pub mends : Mends
+mends d l b r m n x =
+    one-read b r (Word d (flips b l)) x
+    (reads-word
+    (record {
+      below = ltb-true d 128 (accepted _ (m .number));
+      near = subst (Near b) (m .block) n;
+      count = ap (flips b) (m .block);
+    }))
+
+same-bit : (a : ℕ) → unlike a a ≡ 0
+same-bit a = ap (λ (t : Bool). cond t 0 1) (eq-eqb a a refl)
+
+gap-self : (x : ℕ) → gap x x ≡ 0
+unfolding gap
+gap-self x =
+    ap₂ (λ (p q : ℕ). p + q)
+    (ap₂ (λ (p q : ℕ). p + q) (ap₂ (λ (p q : ℕ). p + q) (same-bit (bit x 3)) (same-bit (bit x 2))) (same-bit (bit x 1)))
+    (same-bit (bit x 0))
+
+flips-self : (b : ℕ) → flips b b ≡ 0
+flips-self b = omega (arith, gap-self (symbol b 0), gap-self (symbol b 1), gap-self (symbol b 2), gap-self (symbol b 3))
+
+near-self : (b : ℕ) → Near b b
+near-self b = record { one = λ i h. omega (arith, gap-self (symbol b i)); two = omega (arith, flips-self b) }
+
+pub round-trip : RoundTrip
+round-trip d l r m x = mends d l l r m (near-self l) x ∙ ap (Word d) (flips-self l)

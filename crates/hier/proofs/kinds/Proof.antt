@@ -1,0 +1,12 @@
+-- `kinds`: the constant passes its test.
+use Rattle.hier.specs.Inside.{kindOf}
+use Rattle.hier.proofs.Tables.{kind?, is-kinds}
+use Rattle.hier.proofs.kinds.Statement.{statement}
+use Rattle.hier.proofs.kinds.Tie as tie
+
+returns : tie.Need-returns
+unfolding kind? kindOf
+returns c = is-kinds _ tt
+
+pub kinds-spec : {M : Type 1} → statement M
+kinds-spec = tie.close (tie.spec returns)

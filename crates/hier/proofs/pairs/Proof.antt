@@ -1,0 +1,11 @@
+-- `pairs`: the constant passes its test.
+use Rattle.hier.proofs.Tables.{pair?, is-pairs}
+use Rattle.hier.proofs.pairs.Statement.{statement}
+use Rattle.hier.proofs.pairs.Tie as tie
+
+returns : tie.Need-returns
+unfolding pair?
+returns c = is-pairs _ tt
+
+pub pairs-spec : {M : Type 1} → statement M
+pairs-spec = tie.close (tie.spec returns)

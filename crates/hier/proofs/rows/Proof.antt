@@ -1,0 +1,13 @@
+-- `rows`: the constant passes its test.
+use Rattle.hier.specs.Symbols.{gap}
+use Rattle.hier.specs.Inside.{nearOf}
+use Rattle.hier.proofs.Tables.{row?, is-rows}
+use Rattle.hier.proofs.rows.Statement.{statement}
+use Rattle.hier.proofs.rows.Tie as tie
+
+returns : tie.Need-returns
+unfolding row? nearOf gap
+returns c = is-rows _ tt
+
+pub rows-spec : {M : Type 1} → statement M
+rows-spec = tie.close (tie.spec returns)

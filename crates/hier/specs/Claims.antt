@@ -1,0 +1,24 @@
+-- What is proved of the code and of its calls beside their contracts.
+-- ┌──────────────┬──────────────────────────────────────────────────────────────────┐
+-- │ NeverASecond │ no two lawful blocks are near one block                          │
+-- │ Mends        │ made and then damaged in at most two symbols by one bit each:    │
+-- │              │ the data and the number of bits are read                         │
+-- │ RoundTrip    │ made and unharmed: the data, and no flip                         │
+-- └──────────────┴──────────────────────────────────────────────────────────────────┘
+use mathlib.Core.Path.{_≡_}
+use Prim.Native.Nat.{ℕ}
+use Rattle.hier.specs.declared.Coded.the-variants.{Block}
+use Rattle.hier.specs.declared.Reading.{Reading}
+use Rattle.hier.specs.declared.Reading.the-variants.{Word}
+use Rattle.hier.specs.Blocks.{Lawful, blockOf, flips, Near}
+use Rattle.hier.specs.Calls.{Makes, Reads}
+
+abbrev pub NeverASecond : Type 0
+NeverASecond = (b u w c u′ w′ c′ : ℕ) → Lawful u w c → Lawful u′ w′ c′ → Near b (blockOf u w c) → Near b (blockOf u′ w′ c′)
+    → (u ≡ u′) × (w ≡ w′) × (c ≡ c′)
+
+abbrev pub Mends : Type 0
+Mends = (d l b : ℕ) (r : Reading) → Makes d (Block l) → Near b l → Reads b r → r ≡ Word d (flips b l)
+
+abbrev pub RoundTrip : Type 0
+RoundTrip = (d l : ℕ) (r : Reading) → Makes d (Block l) → Reads l r → r ≡ Word d 0

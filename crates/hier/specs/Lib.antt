@@ -1,0 +1,5 @@
+pub mod Symbols
+pub mod Blocks
+pub mod Calls
+pub mod Claims
+pub mod Inside

@@ -2,6 +2,7 @@
 -- ┌───────────────┬────────────────────────────────────────────────────────────────┐
 -- │ answer-one    │ two readings of one answer are the same                        │
 -- │ listed-one    │ two answers of a list call of one number are the same          │
+-- │ shown-one     │ what a list shows of a frame is one number                     │
 -- │ one-reading … │ the statements of specs/Demands.antt by these names            │
 -- └───────────────┴────────────────────────────────────────────────────────────────┘
 use mathlib.Core.Path.{_≡_, refl, sym, ap, _∙_, subst}
@@ -81,8 +82,7 @@ one-making d (Frame f) TooLarge p q = absurd (let z = p .number ∙ sym (q .numb
 one-making d TooLarge (Frame g) p q = absurd (let z = q .number ∙ sym (p .number) in omega arith)
 one-making d TooLarge TooLarge p q = refl
 
--- what a list shows of a frame by its one answer is one number
-shown-one : (fs : List ℕ) → Numbers fs → (shown : Answer → ℕ) (i : ℕ) → i < length fs → (x y : ℕ)
+pub shown-one : (fs : List ℕ) → Numbers fs → (shown : Answer → ℕ) (i : ℕ) → i < length fs → (x y : ℕ)
     → (a : Answer) × Reads (getD fs i 0) a × (x ≡ shown a) → (a : Answer) × Reads (getD fs i 0) a × (y ≡ shown a) → x ≡ y
 shown-one fs n shown i h x y (a, r, e) (b, s, g) = e ∙ ap shown (one-answer (getD fs i 0) (n i h) a b r s) ∙ sym g
 

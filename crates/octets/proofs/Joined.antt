@@ -4,6 +4,7 @@
 -- │ numbers-at    │ a number of the list, by its place                             │
 -- │ numbers-len   │ how many they are                                              │
 -- │ numbers-join  │ the numbers of joined bytes, where the first part is whole     │
+-- │ numbers-lt    │ the numbers of bytes have 64 bits                              │
 -- │ one-taken     │ no second answer or list meets the contract of `numbers`       │
 -- └───────────────┴────────────────────────────────────────────────────────────────┘
 use mathlib.Core.Path.{_≡_, refl, sym, ap, ap₂, _∙_, subst}
@@ -86,6 +87,17 @@ numbers-join a b h =
     ∙ ap₂ (λ (x y : List ℕ). x ++ y)
     (numbers-first m a b 0 (omega arith))
     (ap (numbers n (a ++ b)) f ∙ numbers-second n a b 0)
+
+joined-lt : (bs : List ℕ) (at : ℕ) → ((i : ℕ) → getD bs i 0 < 256) → joined 8 bs at < 2 ^ 64
+unfolding joined
+joined-lt bs at h =
+    omega
+    (arith, h (at + 0), h (at + 1), h (at + 2), h (at + 3), h (at + 4), h (at + 5), h (at + 6), h (at + 7))
+
+pub numbers-lt : (bs : List ℕ) → ((i : ℕ) → getD bs i 0 < 256) → (i : ℕ) → i < length (numbersOf bs) → getD (numbersOf bs) i 0 < 2 ^ 64
+numbers-lt bs h i l =
+    let k : i < length bs / 8 = subst (λ (n : ℕ). i < n) (numbers-len (length bs / 8) bs 0) l in
+    subst (λ (x : ℕ). x < 2 ^ 64) (sym (numbers-at (length bs / 8) bs 0 i k)) (joined-lt bs (0 + i * 8) h)
 
 pub one-taken : (bs o₀ : List ℕ) (m n : ℕ) (o p : List ℕ) → Taken bs o₀ m o → Taken bs o₀ n p → (m ≡ n) × (o ≡ p)
 one-taken bs o₀ m n o p s t =

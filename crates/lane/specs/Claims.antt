@@ -1,0 +1,53 @@
+-- What is proved beside the contract.
+-- ┌─────────────────────┬──────────────────────────────────────────────────────────┐
+-- │ Octets bs           │ each number of bs is a byte                              │
+-- │ OneSeen             │ frames have one list of verdicts and one of flags        │
+-- │ SomeSeen            │ and have them                                            │
+-- │ OneCount            │ no second answer meets the contract of `count`           │
+-- │ Pieces t bss u      │ the pieces bss, counted one after the other, take t to   │
+-- │                     │ u; each but the last is of whole frames                  │
+-- │ joining bss         │ the bytes of all pieces                                  │
+-- │ Total bs u          │ u has the counts over all whole frames of bs, and the    │
+-- │                     │ bytes that are left over                                 │
+-- │ InPieces            │ counting in pieces is counting all at once               │
+-- └─────────────────────┴──────────────────────────────────────────────────────────┘
+use mathlib.Core.Path.{_≡_}
+use mathlib.Core.List.{List, [], _∷_, _++_}
+use Prim.Native.Nat.{ℕ, _%_, _<_}
+use lib.ListN.{length, getD}
+use Rattle.tally.specs.Counts.{fresh, counts}
+use Rattle.tally.specs.declared.Tally.{Tally}
+use Rattle.lane.specs.Counts.{Seen, totalsOf, Counts}
+use Rattle.lane.specs.declared.Totals.{Totals}
+use Rattle.lane.specs.declared.Counted.{Counted}
+use Rattle.lane.specs.declared.Counted.the-variants.{Next}
+
+abbrev pub Octets : List ℕ → Type 0
+Octets bs = (i : ℕ) → getD bs i 0 < 256
+
+abbrev pub OneSeen : Type 0
+OneSeen = (bs vs ps ws qs : List ℕ) → Octets bs → Seen bs vs ps → Seen bs ws qs → (vs ≡ ws) × (ps ≡ qs)
+
+abbrev pub SomeSeen : Type 0
+SomeSeen = (bs : List ℕ) → Octets bs → (vs : List ℕ) × ((ps : List ℕ) × Seen bs vs ps)
+
+abbrev pub OneCount : Type 0
+OneCount = (t : Tally) (bs : List ℕ) (r s : Counted) → Octets bs → Counts t bs r → Counts t bs s → r ≡ s
+
+pub data Pieces : Tally → List (List ℕ) → Totals → Type 0 where
+  last : {t : Tally} {u : Totals} {bs : List ℕ} → Counts t bs (Next u) → Pieces t (bs ∷ []) u
+  more : {t : Tally} {u w : Totals} {bs : List ℕ} {bss : List (List ℕ)}
+      → length bs % 8 ≡ 0 → Counts t bs (Next u) → Pieces (u .tally) bss w → Pieces t (bs ∷ bss) w
+
+unfoldable pub joining : List (List ℕ) → List ℕ
+joining [] = []
+joining (bs ∷ bss) = bs ++ joining bss
+
+pub record Total (bs : List ℕ) (u : Totals) : Type 0 where
+  pub vs : List ℕ
+  pub ps : List ℕ
+  pub seen : Seen bs vs ps
+  pub counted : u ≡ totalsOf (counts vs ps) (length bs % 8)
+
+abbrev pub InPieces : Type 0
+InPieces = (bss : List (List ℕ)) (u : Totals) → Pieces fresh bss u → Total (joining bss) u

@@ -1,0 +1,119 @@
+// Counts the frames on standard input, eight bytes each, highest first, and prints eight lines.
+ghost use Rattle.io.specs.Counts.{Counts};
+use lane::Counted;
+use lane::Totals;
+use libc::STDERR_FILENO;
+use libc::STDIN_FILENO;
+use libc::STDOUT_FILENO;
+use tally::Tally;
+
+// What a run has come to: the totals so far, those of the whole input, or why it stopped.
+enum State {
+    More(Totals),
+    Done(Totals),
+    Unread,
+    Refused,
+}
+
+// How much of a buffer was filled before the input ended or a read failed.
+struct Filled {
+    bytes: usize,
+    failed: bool,
+}
+
+// Reads until the buffer is full or the input ends. A read may hand over any number of bytes.
+fn fill(buffer: &mut [u8]) -> Filled
+    ensures { λ r. ⌜ Counts (r .bytes) (now (buffer .exit)) ⌝ }
+{
+    let mut done = 0;
+    while done < buffer.len() {
+        let got = libc::read(STDIN_FILENO, &mut buffer[done..]);
+        if got < 0 {
+            return Filled {
+                bytes: done,
+                failed: true,
+            };
+        }
+        let n = io::count(got, &buffer[done..]);
+        if n == 0 {
+            break;
+        }
+        done += n;
+    }
+    Filled {
+        bytes: done,
+        failed: false,
+    }
+}
+
+// One buffer of input, counted on. A buffer that the input did not fill is the last.
+fn one_turn(t: Tally) -> State {
+    let mut buffer = io::large_buffer();
+    let filled = fill(&mut buffer);
+    if filled.failed {
+        return State::Unread;
+    }
+    let n = filled.bytes;
+    match lane::count(t, &buffer[..n]) {
+        Counted::Next(u) => {
+            if n < 65536 {
+                State::Done(u)
+            } else {
+                State::More(u)
+            }
+        }
+        Counted::TooLong => State::Refused,
+        Counted::OutOfRange => State::Refused,
+        Counted::Full => State::Refused,
+    }
+}
+
+// The whole input. The tally is full long before the turns are used up.
+fn all() -> State {
+    let mut state = one_turn(Tally::fresh());
+    let mut turns = 1u64 << 41;
+    while 0 < turns {
+        let State::More(u) = state else {
+            return state;
+        };
+        state = one_turn(u.tally);
+        turns -= 1;
+    }
+    state
+}
+
+fn line(name: &[u8], n: u64) {
+    io::write_all(STDOUT_FILENO, name);
+    io::print_decimal(STDOUT_FILENO, n);
+    io::write_all(STDOUT_FILENO, b"\n");
+}
+
+fn lines(u: Totals) {
+    let t = u.tally;
+    line(b"frames ", u.frames);
+    line(b"clean ", t.clean);
+    line(b"one ", t.one);
+    line(b"two ", t.two);
+    line(b"no-word ", t.no_word);
+    line(b"run-broken ", t.run_broken);
+    line(b"pad-wrong ", t.pad_wrong);
+    line(b"left-over ", u.left);
+}
+
+fn main() {
+    match all() {
+        State::Done(u) => lines(u),
+        State::More(_) => {
+            io::write_all(STDERR_FILENO, b"listing: the input has no end\n");
+        }
+        State::Unread => {
+            io::write_all(
+                STDERR_FILENO,
+                b"listing: standard input could not be read; nothing is counted\n",
+            );
+        }
+        State::Refused => {
+            io::write_all(STDERR_FILENO, b"listing: more than 2^53 - 1 frames\n");
+        }
+    }
+}

@@ -1,0 +1,15 @@
+pub mod Laws
+pub mod Digits
+pub mod Steps
+pub mod Buffer
+pub mod Ranges
+pub mod Recurrence
+pub mod Generated
+pub mod Fed
+pub mod Whole
+pub mod Sound
+pub mod Answers
+pub mod Pieces
+pub mod Counts
+pub mod Own
+pub mod Exact

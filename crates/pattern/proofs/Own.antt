@@ -1,0 +1,128 @@
+-- The generator's own bytes, received as they were sent.
+-- ┌───────────────┬────────────────────────────────────────────────────────────────┐
+-- │ filled-by-run │ a register filled with the run's first bits is the generator's │
+-- │ own-output    │ OwnOutput                                                      │
+-- └───────────────┴────────────────────────────────────────────────────────────────┘
+use mathlib.Core.Path.{_≡_, refl, sym, ap, ap₂, _∙_, subst}
+use mathlib.Core.Bool.{true, false}
+use mathlib.Core.Logic.{⊎-elim}
+use mathlib.Core.List.{List}
+use Prim.Native.Nat.{ℕ, _+_, _-_, _*_, _%_, _^_, _≤_, _<_}
+use native.Mathlib.Nat.{le-of-lt}
+use native.Mathlib.Omega.{arith}
+use lib.Dec.{T}
+use borrow.Author.Tests.{eqb-true}
+use lib.Pow.{low}
+use lib.ListN.{length, getD, take, drop, length-drop}
+use lib.Seq.{take-at, getD-drop}
+use Rattle.pattern.specs.Bits.{number, bitsOf}
+use Rattle.pattern.specs.Sequence.{Follows, onward, run}
+use Rattle.pattern.specs.Refusal.{mostBits, pattern, secondTap}
+use Rattle.pattern.specs.Generation.{registered}
+use Rattle.pattern.specs.Counting.{fedBits, zeroFilled, fresh, fed}
+use Rattle.pattern.specs.Theorems.{joined, OwnOutput}
+use Rattle.pattern.specs.declared.counter.Counter.{Counter}
+use Rattle.pattern.proofs.Laws.{below-or, never-both}
+use Rattle.pattern.proofs.Ranges.{taps, registered-pattern, registered-lt}
+use Rattle.pattern.proofs.Steps.{length-run, bits-run, run-add, run-lt, onward-add, onward-number}
+use Rattle.pattern.proofs.Recurrence.{run-at, sequence-of, lasts}
+use Rattle.pattern.proofs.Generated.{bits-of-bytes}
+use Rattle.pattern.proofs.Sound.{Sound, counts, steady, zero-at-end}
+use Rattle.pattern.proofs.Answers.{zero-filled}
+use Rattle.pattern.proofs.Pieces.{feeds-all}
+use Rattle.pattern.proofs.Counts.{fed-short, fed-long, no-errors, right}
+
+fresh-sound : (p : ℕ) → T (pattern p) → Sound (fresh p)
+fresh-sound p known =
+    let k = taps p known .3 in
+    let l = taps p known .2 in
+    record { known = known; places = omega arith; register = omega arith; live = λ f z. none f; idle = λ h. refl; errors = omega arith; bits = omega arith }
+  where
+    none : 0 ≡ p → ⊥
+    none e = omega (arith, taps p known .2)
+
+filled-by-run : (p t r m : ℕ) → r < 2 ^ p → p ≤ m → number (take p (run p t m r)) ≡ onward p t p r
+filled-by-run p t r m h l =
+    let e : p + (m - p) ≡ m = omega arith in
+    ap (λ (x : List ℕ). number (take p x)) (sym (run-add p t p (m - p) r ∙ ap (λ (k : ℕ). run p t k r) e))
+    ∙ ap number (take-at (run p t p r) (run p t (m - p) (onward p t p r)) p (length-run p t p r))
+    ∙ sym (onward-number p t p r h ∙ low r p (run-lt p t p r))
+
+-- the sequence from its bit L on follows the recurrence too
+later-follows : (L T : ℕ) (b : ℕ → ℕ) → T ≤ L → Follows L T b → Follows L T (λ n. b (L + n))
+unfolding Follows
+later-follows L T b h f n l =
+    let x : L + n - L ≡ L + (n - L) = omega arith in
+    let y : L + n - T ≡ L + (n - T) = omega arith in
+    f (L + n) (omega arith) ∙ ap₂ (λ (i j : ℕ). (b i + b j) % 2) x y
+
+module _ (p r m : ℕ) (inside : registered p r ≡ true) (live : r ≡ 0 → ⊥) where
+  abbrev tap : ℕ
+  tap = secondTap p
+
+  abbrev X : List ℕ
+  X = run p tap m r
+
+  abbrev c : Counter
+  c = fedBits p tap (fresh p) X
+
+  known : T (pattern p)
+  known = registered-pattern p r inside
+
+  -- no register of zeros comes of a register that is not zero
+  not-zero : c .filled ≡ p → c .register ≡ 0 → ⊥
+  not-zero f z = ⊎-elim short long (below-or m p)
+    where
+      short : m < p → ⊥
+      short h =
+          let n = length-run p tap m r in
+          let e : 0 + length X ≡ p = sym (ap (λ (x : Counter). x .filled) (fed-short p X (omega arith))) ∙ f in
+          omega arith
+
+      long : p ≤ m → ⊥
+      long h =
+          let n : length X ≡ m = length-run p tap m r in
+          let k = taps p known in
+          let l = registered-lt p r inside in
+          let s : p + (length X - p) ≡ m = omega arith in
+          let e : c .register ≡ onward p tap m r =
+          ap (λ (x : Counter). x .register) (fed-long p X (omega arith))
+          ∙ ap (onward p tap (length X - p)) (filled-by-run p tap r m l h)
+          ∙ onward-add p tap p (length X - p) r
+          ∙ ap (λ (i : ℕ). onward p tap i r) s in
+          lasts p tap (k .0) (k .2) m r l live (sym e ∙ z)
+
+  zero-free : zeroFilled p tap (fresh p) X ≡ false
+  zero-free =
+      let k = taps p known in
+      zero-at-end p tap (k .0) (k .2) (bits-run p tap m r) (fresh p) (steady (fresh p) (fresh-sound p known)) (fresh-sound p known .live)
+      ∙ never-both _ _ (λ f z. not-zero (eqb-true _ _ f) (eqb-true _ _ z))
+
+  -- the sequence that the first bits determine is the generator's own, so nothing differs
+  errorless : (c .bits ≡ m - p) × (c .errors ≡ 0)
+  errorless =
+      let k = taps p known in
+      let g = sequence-of p tap (k .0) (k .2) r (registered-lt p r inside) in
+      let b₀ = g .0 in
+      let b : ℕ → ℕ = λ n. b₀ (p + n) in
+      let n : length X ≡ m = length-run p tap m r in
+      let at : (i : ℕ) → i < length X → getD X i 0 ≡ b i = λ i l. run-at p tap (k .0) (k .2) r b₀ (g .1 .0) (g .1 .1) i m (subst (λ (j : ℕ). i < j) n l) in
+      let w = right p known X (bits-run p tap m r) b (later-follows p tap b₀ (le-of-lt (k .2)) (g .1 .0)) (λ i l j. sym (at i j)) in (
+        w .0 ∙ ap (λ (i : ℕ). i - p) n,
+        w .1 ∙ no-errors b p (drop p X) (λ i l. getD-drop p X i 0 ∙ at (p + i) (within (length X) p i (subst (λ (j : ℕ). i < j) (length-drop p X) l))),
+      )
+    where
+      within : (n p i : ℕ) → i < n - p → p + i < n
+      within n p i h = omega arith
+
+pub own-output : OwnOutput
+own-output p r n pieces inside live J S most =
+    let t = secondTap p in
+    let m = 8 * n in
+    let e : bitsOf (joined pieces) ≡ run p t m r = ap bitsOf J ∙ bits-of-bytes p t n r in
+    let f : fed (fresh p) (joined pieces) ≡ fedBits p t (fresh p) (run p t m r) = ap (fedBits p t (fresh p)) e in
+    let w = errorless p r m inside live in
+    let i = counts (fresh p) (fresh-sound p (registered-pattern p r inside)) in
+    let b : fed (fresh p) (joined pieces) .bits ≤ mostBits = omega (arith, ap (λ (c : Counter). c .bits) f, w .0) in
+    let z : zero-filled (fresh p) (joined pieces) ≡ false = ap (zeroFilled p t (fresh p)) e ∙ zero-free p r m inside live in
+    (fed (fresh p) (joined pieces), (feeds-all pieces (fresh p) S i b z, ap (λ (c : Counter). c .errors) f ∙ w .1))

@@ -1,0 +1,151 @@
+-- Pieces fed one after another.
+-- ┌─────────────────┬───────────────────────────────────────────────────────────┐
+-- │ fed-join        │ a piece and the next are fed as their joining             │
+-- │ zero-join       │ and so is a register filled with zeros                    │
+-- │ two-pieces      │ both accepted, their joining is, where it is short enough │
+-- │ all-fed         │ pieces all accepted are fed as their joining              │
+-- │ feeds-on        │ FeedsOn                                                   │
+-- │ feeds-in-pieces │ FeedsInPieces                                             │
+-- │ feeds-all       │ pieces are all accepted where nothing speaks against the  │
+-- │                 │ bits of their joining                                     │
+-- └─────────────────┴───────────────────────────────────────────────────────────┘
+use mathlib.Core.Path.{_≡_, refl, sym, ap, ap₂, _∙_, subst}
+use mathlib.Core.Bool.{Bool, true, false, _&&_, _||_}
+use mathlib.Core.List.{List, [], _∷_, _++_, append-nil}
+use Prim.Native.Nat.{ℕ, _+_, _-_, _≤_, _<_, min}
+use native.Mathlib.Omega.{arith}
+use lib.Dec.{T, eqb}
+use borrow.Author.Tests.{eq-eqb}
+use lib.ListN.{length, length-append}
+use Rattle.pattern.specs.Bits.{bitsOf}
+use Rattle.pattern.specs.Refusal.{mostBytes, mostBits, pattern, secondTap}
+use Rattle.pattern.specs.Counting.{fedBit, fedBits, nowZero, zeroFilled, counted, fed}
+use Rattle.pattern.specs.Theorems.{joined, AllFed, AllShort, FeedsOn, FeedsInPieces}
+use Rattle.pattern.specs.declared.counter.Counter.{Counter}
+use Rattle.laws.proofs.Truth.{is-true, neither}
+use Rattle.pattern.proofs.Laws.{or-assoc}
+use Rattle.pattern.proofs.Ranges.{taps}
+use Rattle.pattern.proofs.Fed.{fed-append, steady-fed, pattern-fed, filled-fed, bits-fed}
+use Rattle.pattern.proofs.Sound.{Sound, sound, counts, steady, zero-at-end}
+use Rattle.pattern.proofs.Answers.{bits-bits, bits-join, zero-filled, Taken, taken, take}
+
+zero-append : (L T : ℕ) (xs ys : List ℕ) (c : Counter) → zeroFilled L T c (xs ++ ys) ≡ zeroFilled L T c xs || zeroFilled L T (fedBits L T c xs) ys
+unfolding zeroFilled fedBits
+zero-append L T [] ys c = refl
+zero-append L T (x ∷ xs) ys c =
+    let d = fedBit L T c x in
+    ap (λ (b : Bool). nowZero L c d || b) (zero-append L T xs ys d)
+    ∙ or-assoc (nowZero L c d) (zeroFilled L T d xs) (zeroFilled L T (fedBits L T d xs) ys)
+
+module _ (c : Counter) (a b : List ℕ) where
+  same-pattern : fed c a .pattern ≡ c .pattern
+  same-pattern = pattern-fed (c .pattern) (secondTap (c .pattern)) (bitsOf a) c
+
+  pub fed-join : fed c (a ++ b) ≡ fed (fed c a) b
+  fed-join =
+      ap (fedBits (c .pattern) (secondTap (c .pattern)) c) (bits-join a b)
+      ∙ fed-append (c .pattern) (secondTap (c .pattern)) (bitsOf a) (bitsOf b) c
+      ∙ ap (λ (p : ℕ). fedBits p (secondTap p) (fed c a) (bitsOf b)) (sym same-pattern)
+
+  pub zero-join : zero-filled c (a ++ b) ≡ zero-filled c a || zero-filled (fed c a) b
+  zero-join =
+      ap (zeroFilled (c .pattern) (secondTap (c .pattern)) c) (bits-join a b)
+      ∙ zero-append (c .pattern) (secondTap (c .pattern)) (bitsOf a) (bitsOf b) c
+      ∙ ap (λ (p : ℕ). zero-filled c a || zeroFilled p (secondTap p) (fed c a) (bitsOf b)) (sym same-pattern)
+
+  pub two-pieces : (d e : Counter) → Taken c a d → Taken d b e → length (a ++ b) ≤ mostBytes → Taken c (a ++ b) e
+  two-pieces d e s t l =
+      let u : Taken (fed c a) b e = subst (λ (x : Counter). Taken x b e) (sym (s .next)) t in
+      record {
+        short = l;
+        inside = s .inside;
+        room = subst (λ (x : Counter). x .bits ≤ mostBits) (sym fed-join) (u .room);
+        live = zero-join ∙ ap₂ _||_ (s .live) (u .live);
+        next = fed-join ∙ u .next;
+      }
+
+fed-nothing : (c : Counter) → fed c [] ≡ c
+unfolding bitsOf fedBits
+fed-nothing c = refl
+
+pub all-fed : {c d : Counter} {pieces : List (List ℕ)} → AllFed c pieces d → fed c (joined pieces) ≡ d
+unfolding joined
+all-fed (AllFed.none {c}) = fed-nothing c
+all-fed (AllFed.more {c} {d} {e} {piece} {pieces} h rest) =
+    fed-join c piece (joined pieces) ∙ ap (λ (x : Counter). fed x (joined pieces)) (taken c piece d h .next) ∙ all-fed rest
+
+joined-taken : {c d : Counter} {piece : List ℕ} {pieces : List (List ℕ)} → AllFed c (piece ∷ pieces) d → length (joined (piece ∷ pieces)) ≤ mostBytes → Taken c (joined (piece ∷ pieces)) d
+unfolding joined
+joined-taken (AllFed.more {c} {d} {e} {piece} h AllFed.none) l = subst (λ (x : List ℕ). Taken c x d) (sym (append-nil piece)) (taken c piece d h)
+joined-taken (AllFed.more {c} {d} {e} {piece} h (AllFed.more {piece = a} {pieces = l} k rest)) s =
+    let short : length (joined (a ∷ l)) ≤ mostBytes = omega (arith, length-append piece (joined (a ∷ l))) in
+    two-pieces c piece (joined (a ∷ l)) d e (taken c piece d h) (joined-taken {piece = a} {pieces = l} (AllFed.more k rest) short) s
+
+pub feeds-in-pieces : FeedsInPieces
+feeds-in-pieces c d piece pieces h l = take c (joined (piece ∷ pieces)) d (joined-taken h l)
+
+after-sound : (c : Counter) (piece : List ℕ) → Taken c piece (fed c piece) → Sound (fed c piece)
+after-sound c piece t =
+    let s = sound c (t .inside) in
+    let p = c .pattern in
+    let tap = secondTap p in
+    let k = taps p (s .known) in
+    let d = fed c piece in
+    let n = length (bitsOf piece) in
+    let q : d .pattern ≡ p = same-pattern c piece [] in
+    let u = steady-fed p tap (bits-bits piece) c (steady c s) in
+    let z : eqb (d .filled) p && eqb (d .register) 0 ≡ false =
+    sym (zero-at-end p tap (k .0) (k .2) (bits-bits piece) c (steady c s) (s .live)) ∙ t .live in
+    let f : d .filled ≡ min p (c .filled + n) = filled-fed p tap (bitsOf piece) c (s .places) in
+    let b : d .bits ≡ c .bits + (n - (p - c .filled)) = bits-fed p tap (bitsOf piece) c (s .places) in
+    record {
+      known = subst (λ (x : ℕ). T (pattern x)) (sym q) (s .known);
+      places = subst (λ (x : ℕ). d .filled ≤ x) (sym q) (u .places);
+      register = u .register;
+      live = λ e r. is-true {t = false} (sym z ∙ ap₂ _&&_ (eq-eqb (d .filled) p (e ∙ q)) (eq-eqb (d .register) 0 r));
+      idle = λ h. b ∙ still-idle (c .bits) (c .filled) p n (s .places) (s .idle) (λ e. h (f ∙ e ∙ sym q));
+      errors = u .errors;
+      bits = t .room;
+    }
+  where
+    still-idle : (b f p n : ℕ) → f ≤ p → ((f ≡ p → ⊥) → b ≡ 0) → (min p (f + n) ≡ p → ⊥) → b + (n - (p - f)) ≡ 0
+    still-idle b f p n l idle h =
+        let m : f + n < p = not-full p (f + n) h in
+        let z : b ≡ 0 = idle (λ e. apart f n p m e) in
+        omega arith
+      where
+        not-full : (p m : ℕ) → (min p m ≡ p → ⊥) → m < p
+        not-full p m h = omega arith
+
+        apart : (f n p : ℕ) → f + n < p → f ≡ p → ⊥
+        apart f n p m e = omega arith
+
+pub feeds-on : FeedsOn
+feeds-on c d piece e =
+    let t = taken c piece d e in
+    subst (λ (x : Counter). counted x ≡ true) (t .next)
+    (counts (fed c piece) (after-sound c piece (record { short = t .short; inside = t .inside; room = t .room; live = t .live; next = refl })))
+
+-- a first piece is accepted where what follows it does not pass the count
+first-taken :
+    (c : Counter) (piece rest : List ℕ) → counted c ≡ true → length piece ≤ mostBytes → zero-filled c piece ≡ false
+    → fed (fed c piece) rest .bits ≤ mostBits → Taken c piece (fed c piece)
+first-taken c piece rest i l z b =
+    let d = fed c piece in
+    let p = c .pattern in
+    let u = steady-fed p (secondTap p) (bits-bits piece) c (steady c (sound c i)) in
+    let q : d .filled ≤ d .pattern = subst (λ (x : ℕ). d .filled ≤ x) (sym (same-pattern c piece [])) (u .places) in
+    let m = bits-fed (d .pattern) (secondTap (d .pattern)) (bitsOf rest) d q in
+    record { short = l; inside = i; room = omega arith; live = z; next = refl }
+
+pub feeds-all :
+    (pieces : List (List ℕ)) (c : Counter) → AllShort pieces → counted c ≡ true
+    → fed c (joined pieces) .bits ≤ mostBits → zero-filled c (joined pieces) ≡ false → AllFed c pieces (fed c (joined pieces))
+unfolding joined
+feeds-all [] c s i b z = subst (AllFed c []) (sym (fed-nothing c)) AllFed.none
+feeds-all (piece ∷ pieces) c (AllShort.more l s) i b z =
+    let w = neither (zero-filled c piece) (zero-filled (fed c piece) (joined pieces)) (sym (zero-join c piece (joined pieces)) ∙ z) in
+    let B : fed (fed c piece) (joined pieces) .bits ≤ mostBits = subst (λ (x : Counter). x .bits ≤ mostBits) (fed-join c piece (joined pieces)) b in
+    let R = first-taken c piece (joined pieces) i l (w .0) B in
+    subst (AllFed c (piece ∷ pieces)) (sym (fed-join c piece (joined pieces)))
+    (AllFed.more (take c piece (fed c piece) R) (feeds-all pieces (fed c piece) s (counts (fed c piece) (after-sound c piece R)) B (w .1)))

@@ -1,0 +1,49 @@
+-- Bits that come as a number, in one step.
+-- ┌────────────────┬─────────────────────────────────────────────────────────────┐
+-- │ fed-filling-by │ the k bits of n go into the register                        │
+-- │ fed-full-by    │ the k bits of n are compared                                │
+-- │ fed-split      │ the bits of n, where the register is full after the first m │
+-- └────────────────┴─────────────────────────────────────────────────────────────┘
+use mathlib.Core.Path.{_≡_, sym, ap, ap₂, _∙_}
+use Prim.Native.Nat.{ℕ, _+_, _*_, _/_, _%_, _^_, _≤_, _<_}
+use native.Mathlib.Nat.{mod-eq-of-lt}
+use native.Mathlib.Omega.{arith}
+use lib.Bits.{bitXor, xor-comm}
+use lib.Count.{ones}
+use Rattle.pattern.specs.Bits.{number, highest}
+use Rattle.pattern.specs.Sequence.{onward, run}
+use Rattle.pattern.specs.Counting.{fedBits}
+use Rattle.pattern.specs.declared.counter.Counter.{Counter}
+use Rattle.pattern.proofs.Digits.{length-highest, bits-highest, number-highest, highest-split, highest-mod}
+use Rattle.pattern.proofs.Steps.{length-run, bits-run}
+use Rattle.pattern.proofs.Fed.{fed-append, fed-filling, fed-full, apart, apart-ones}
+
+written : (k n : ℕ) → n < 2 ^ k → number (highest k n) ≡ n
+written k n h = number-highest k n ∙ mod-eq-of-lt h
+
+module _ (L T : ℕ) (c : Counter) (n k : ℕ) where
+  pub fed-filling-by : c .filled + k ≤ L → n < 2 ^ k
+      → fedBits L T c (highest k n) ≡ record { pattern = c .pattern; filled = c .filled + k; register = c .register * 2 ^ k + n; bits = c .bits; errors = c .errors }
+  fed-filling-by h l =
+      fed-filling L T (highest k n) c (omega (arith, length-highest k n))
+      ∙ ap₂ (λ (m x : ℕ). record { pattern = c .pattern; filled = c .filled + m; register = c .register * 2 ^ m + x; bits = c .bits; errors = c .errors })
+      (length-highest k n) (written k n l)
+
+  pub fed-full-by : L ≤ c .filled → n < 2 ^ k
+      → fedBits L T c (highest k n)
+      ≡ record { pattern = c .pattern; filled = c .filled; register = onward L T k (c .register); bits = c .bits + k; errors = c .errors + ones (bitXor (number (run L T k (c .register))) n) }
+  fed-full-by h l =
+      let r = c .register in
+      let e : apart (highest k n) (run L T k r) ≡ ones (bitXor (number (run L T k r)) n) =
+      sym (apart-ones (bits-highest k n) (bits-run L T k r) (length-highest k n ∙ sym (length-run L T k r)))
+      ∙ ap (λ (x : ℕ). ones (bitXor x (number (run L T k r)))) (written k n l)
+      ∙ ap ones (xor-comm n (number (run L T k r))) in
+      fed-full L T (highest k n) c h
+      ∙ ap (λ (m : ℕ). record { pattern = c .pattern; filled = c .filled; register = onward L T m r; bits = c .bits + m; errors = c .errors + apart (highest k n) (run L T m r) }) (length-highest k n)
+      ∙ ap (λ (m : ℕ). record { pattern = c .pattern; filled = c .filled; register = onward L T k r; bits = c .bits + k; errors = c .errors + m }) e
+
+pub fed-split : (L T : ℕ) (c : Counter) (n m k : ℕ) → fedBits L T (fedBits L T c (highest m (n / 2 ^ k))) (highest k (n % 2 ^ k)) ≡ fedBits L T c (highest (m + k) n)
+fed-split L T c n m k =
+    ap (fedBits L T (fedBits L T c (highest m (n / 2 ^ k)))) (highest-mod k k n (omega arith))
+    ∙ sym (fed-append L T (highest m (n / 2 ^ k)) (highest k n) c)
+    ∙ ap (fedBits L T c) (sym (highest-split m k n))

@@ -1,0 +1,35 @@
+-- The shift loses nothing, and what is left is the law `fed-filling-by`.
+use mathlib.Core.Path.{sym, ap, _∙_}
+use Prim.Native.Nat.{ℕ, _+_}
+use native.Mathlib.Omega.{arith}
+use borrow.Author.Needs.{needs}
+use lib.Pow.{pow-mono, shl-lt, shl-exact}
+use Rattle.pattern.proofs.Whole.{fed-filling-by}
+use Rattle.pattern.proofs.counter.fill_bits.Statement.{statement}
+use Rattle.pattern.proofs.counter.fill_bits.Tie as tie
+
+add-t6 : tie.Need-add-t6
+add-t6 c = search needs
+
+shl-t7 : tie.Need-shl-t7
+shl-t7 c = search needs
+
+add-t8 : tie.Need-add-t8
+add-t8 c =
+    let b = c .before .before in
+    let a = b .args in
+    let s = a .c in
+    omega
+    (arith, shl-exact {a = s .register} (s .filled) (a .k) 64 (b .pre .register) (omega arith), shl-lt {a = s .register} (s .filled) (a .k) (b .pre .register), pow-mono {i = s .filled + a .k} {j = 32} (omega arith), pow-mono {i = a .k} {j = 8} (omega arith))
+
+returns : tie.Need-returns
+returns c =
+    let b = c .before .before in
+    let a = b .args in
+    let s = a .c in
+    ap (λ (x : ℕ). record { pattern = s .pattern; filled = s .filled + a .k; register = x + a .n; bits = s .bits; errors = s .errors })
+    (shl-exact {a = s .register} (s .filled) (a .k) 64 (b .pre .register) (omega arith))
+    ∙ sym (fed-filling-by (a .l) (a .t) s (a .n) (a .k) (b .pre .places) (b .pre .bits))
+
+pub fill-bits-spec : {M : Type 1} → statement M
+fill-bits-spec = tie.close (tie.spec add-t6 shl-t7 add-t8 returns)

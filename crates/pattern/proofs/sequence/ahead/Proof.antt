@@ -1,0 +1,45 @@
+-- The shifts lose nothing, and what is left is the law `ahead-number`.
+use mathlib.Core.Path.{_≡_, sym, ap₂, _∙_, subst}
+use Prim.Native.Nat.{ℕ, _-_, _*_, _/_, _%_, _^_, _<_}
+use native.Mathlib.Omega.{arith}
+use borrow.Author.Needs.{needs}
+use lib.Bits.{bitXor}
+use lib.Pow.{pow-pos, shl-exact}
+use Rattle.pattern.specs.Bits.{number}
+use Rattle.pattern.specs.Sequence.{run}
+use Rattle.pattern.proofs.Laws.{one-shl}
+use Rattle.pattern.proofs.Steps.{ahead-number, run-lt}
+use Rattle.pattern.proofs.sequence.ahead.Statement.{statement}
+use Rattle.pattern.proofs.sequence.ahead.Tie as tie
+
+sub-result : tie.Need-sub-result
+sub-result c = search needs
+
+shl-result : tie.Need-shl-result
+shl-result c = search needs
+
+sub-result-2 : tie.Need-sub-result-2
+sub-result-2 c = search needs
+
+shr-result : tie.Need-shr-result
+shr-result c = search needs
+
+shl-result-2 : tie.Need-shl-result-2
+shl-result-2 c = search needs
+
+rem-result : tie.Need-rem-result
+rem-result c = subst (λ (m : ℕ). 0 < m) (sym (one-shl (c .args .k) (omega arith))) (pow-pos (c .args .k))
+
+returns : tie.Need-returns
+returns c =
+    let a = c .args in
+    let wide = shl-exact {a = a .r} (a .l) (a .l - a .t) 64 (c .pre .0) (omega arith) in
+    let e : (bitXor (a .r) (a .r * 2 ^ (a .l - a .t) % 2 ^ 64) / 2 ^ (a .l - a .k)) % (1 * 2 ^ (a .k) % 2 ^ 64) ≡ number (run (a .l) (a .t) (a .k) (a .r)) =
+    ap₂ (λ (x m : ℕ). (bitXor (a .r) x / 2 ^ (a .l - a .k)) % m) wide (one-shl (a .k) (omega arith))
+    ∙ sym (ahead-number (a .l) (a .t) (a .k) (a .r) (c .pre .0) (omega arith) (omega arith)) in
+    (e, subst (λ (n : ℕ). n < 2 ^ (a .k)) (sym e) (run-lt (a .l) (a .t) (a .k) (a .r)))
+
+pub ahead-spec : {M : Type 1} → statement M
+ahead-spec =
+    tie.close
+    (tie.spec sub-result shl-result sub-result-2 shr-result shl-result-2 rem-result returns)

@@ -1,0 +1,8 @@
+pub mod Bits
+pub mod Sequence
+pub mod Refusal
+pub mod Generation
+pub mod Counting
+pub mod Reporting
+pub mod Private
+pub mod Theorems

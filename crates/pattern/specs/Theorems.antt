@@ -1,0 +1,123 @@
+-- What is proved beside the contracts, each for both patterns at once: over the length L and the second tap T, or over the pattern p.
+-- ┌──────────────────┬─────────────────────────────────────────────────────────────────┐
+-- │ Begins L r b     │ the first L bits of b are those of the register r, oldest first │
+-- │ OneSequence      │ two sequences that follow the recurrence and agree on L bits    │
+-- │                  │ are equal                                                       │
+-- │ SomeSequence     │ each register begins a sequence that follows the recurrence     │
+-- │ OneFill          │ no second answer fits the promise of `fill`                     │
+-- │ Continues        │ a filled buffer is that sequence from its bit L on, and the     │
+-- │                  │ register that comes back is its last L bits, the oldest highest │
+-- │ FillsOn          │ a generator that came back fills on                             │
+-- │ FillsInPieces    │ two buffers filled one after the other are one filled at once   │
+-- │ joined l         │ the pieces of l, joined                                         │
+-- │ AllFed c l d     │ the pieces of l take c to d, fed one after another, all         │
+-- │                  │ accepted                                                        │
+-- │ AllShort l       │ each piece of l is short enough to be fed                       │
+-- │ errorsFrom b n l │ at how many of its places the bits l, the first at n, differ    │
+-- │                  │ from the sequence b                                             │
+-- │ FeedsOn          │ a counter that came back is in its range                        │
+-- │ FeedsInPieces    │ pieces all accepted end as their joining, where that is short   │
+-- │ CountsErrors     │ the errors since fresh are those against the sequence that the  │
+-- │                  │ first bits determine                                            │
+-- │ OwnOutput        │ the generator's own bytes, cut anywhere, are all accepted and   │
+-- │                  │ count no error                                                  │
+-- │ LosesNothing     │ a count as a float is that number, and comes back as it was     │
+-- │ OneRounding      │ a quotient of two counts is one rounding of the exact fraction  │
+-- └──────────────────┴─────────────────────────────────────────────────────────────────┘
+use mathlib.Core.Path.{_≡_}
+use mathlib.Core.Bool.{true, false}
+use mathlib.Core.List.{List, [], _∷_, _++_}
+use Prim.Native.Nat.{ℕ, suc, _+_, _-_, _*_, _^_, _≤_, _<_}
+use lib.ListN.{length, getD, drop}
+use lib.IntN.{pos}
+use lib.Ieee.{binary64, ofInt, toUnsigned, round}
+use lib.Ieee.Exact.{HasValue}
+use Rattle.pattern.specs.Bits.{bit, bitsOf}
+use Rattle.pattern.specs.Sequence.{Follows, bytes}
+use Rattle.pattern.specs.Refusal.{mostBytes, mostBits, secondTap}
+use Rattle.pattern.specs.Generation.{registered, Fills, fillAnswer, advanced}
+use Rattle.pattern.specs.Counting.{unlike, counted, fresh, feedAnswer}
+use Rattle.pattern.specs.Reporting.{over}
+use Rattle.pattern.specs.declared.counter.Counter.{Counter}
+use Rattle.pattern.specs.declared.counter.Fed.the-variants.{Counted}
+use Rattle.pattern.specs.declared.generator.Generator.{Generator}
+use Rattle.pattern.specs.declared.generator.Filled.{Filled}
+use Rattle.pattern.specs.declared.generator.Filled.the-variants.{Advanced}
+
+abbrev pub Begins : ℕ → ℕ → (ℕ → ℕ) → Type 0
+Begins L r b = (n : ℕ) → n < L → b n ≡ bit r (L - 1 - n)
+
+abbrev pub OneSequence : Type 0
+OneSequence =
+    (L T : ℕ) → 0 < T → T ≤ L → (b c : ℕ → ℕ)
+    → Follows L T b → Follows L T c → ((n : ℕ) → n < L → b n ≡ c n) → (n : ℕ) → b n ≡ c n
+
+abbrev pub SomeSequence : Type 0
+SomeSequence = (L T r : ℕ) → 0 < T → T < L → r < 2 ^ L → (b : ℕ → ℕ) × (Follows L T b × Begins L r b)
+
+abbrev pub OneFill : Type 0
+OneFill =
+    (g : Generator) (before : List ℕ) (r s : Filled) (x y : List ℕ)
+    → Fills g before r x → Fills g before s y → (r ≡ s) × (x ≡ y)
+
+abbrev pub Continues : Type 0
+Continues =
+    (g h : Generator) (before after : List ℕ) → Fills g before (Advanced h) after
+    → (b : ℕ → ℕ) → Follows (g .pattern) (secondTap (g .pattern)) b → Begins (g .pattern) (g .register) b
+    → ((k : ℕ) → k < 8 * length before → getD (bitsOf after) k 0 ≡ b (g .pattern + k))
+    × Begins (g .pattern) (h .register) (λ n. b (8 * length before + n))
+
+abbrev pub FillsOn : Type 0
+FillsOn =
+    (g h : Generator) (before after : List ℕ) → Fills g before (Advanced h) after
+    → (n : ℕ) → n ≤ mostBytes → fillAnswer h n ≡ Advanced (advanced h n)
+
+abbrev pub FillsInPieces : Type 0
+FillsInPieces =
+    (g h k : Generator) (a b x y : List ℕ) → Fills g a (Advanced h) x → Fills h b (Advanced k) y
+    → length (a ++ b) ≤ mostBytes → Fills g (a ++ b) (Advanced k) (x ++ y)
+
+unfoldable pub joined : List (List ℕ) → List ℕ
+joined [] = []
+joined (piece ∷ pieces) = piece ++ joined pieces
+
+pub data AllFed : Counter → List (List ℕ) → Counter → Type 0 where
+  none : {c : Counter} → AllFed c [] c
+  more : {c d e : Counter} {piece : List ℕ} {pieces : List (List ℕ)}
+      → feedAnswer c piece ≡ Counted d → AllFed d pieces e → AllFed c (piece ∷ pieces) e
+
+pub data AllShort : List (List ℕ) → Type 0 where
+  none : AllShort []
+  more : {piece : List ℕ} {pieces : List (List ℕ)} → length piece ≤ mostBytes → AllShort pieces → AllShort (piece ∷ pieces)
+
+unfoldable pub errorsFrom : (ℕ → ℕ) → ℕ → List ℕ → ℕ
+errorsFrom b n [] = 0
+errorsFrom b n (x ∷ xs) = unlike x (b n) + errorsFrom b (suc n) xs
+
+abbrev pub FeedsOn : Type 0
+FeedsOn = (c d : Counter) (piece : List ℕ) → feedAnswer c piece ≡ Counted d → counted d ≡ true
+
+abbrev pub FeedsInPieces : Type 0
+FeedsInPieces =
+    (c d : Counter) (piece : List ℕ) (pieces : List (List ℕ)) → AllFed c (piece ∷ pieces) d
+    → length (joined (piece ∷ pieces)) ≤ mostBytes → feedAnswer c (joined (piece ∷ pieces)) ≡ Counted d
+
+abbrev pub CountsErrors : Type 0
+CountsErrors =
+    (p : ℕ) (pieces : List (List ℕ)) (c : Counter) → AllFed (fresh p) pieces c
+    → (b : ℕ → ℕ) → Follows p (secondTap p) b
+    → ((n : ℕ) → n < p → n < length (bitsOf (joined pieces)) → b n ≡ getD (bitsOf (joined pieces)) n 0)
+    → (c .bits ≡ length (bitsOf (joined pieces)) - p) × (c .errors ≡ errorsFrom b p (drop p (bitsOf (joined pieces))))
+
+abbrev pub OwnOutput : Type 0
+OwnOutput =
+    (p r n : ℕ) (pieces : List (List ℕ)) → registered p r ≡ true → (r ≡ 0 → ⊥)
+    → joined pieces ≡ bytes p (secondTap p) n r → AllShort pieces → 8 * n - p ≤ mostBits
+    → (c : Counter) × (AllFed (fresh p) pieces c × (c .errors ≡ 0))
+
+abbrev pub LosesNothing : Type 0
+LosesNothing =
+    (n : ℕ) → n ≤ mostBits → (toUnsigned 64 (ofInt binary64 (pos n)) ≡ n) × HasValue (ofInt binary64 (pos n)) false n 1
+
+abbrev pub OneRounding : Type 0
+OneRounding = (a b : ℕ) → a ≤ mostBits → 0 < b → b ≤ mostBits → over a b ≡ round binary64 false a b

@@ -1,0 +1,79 @@
+-- The verdict bytes and pad flags by their cases.
+-- ┌──────────────┬─────────────────────────────────────────────────────────────────┐
+-- │ below-three  │ what holds of 0, 1 and 2 holds of each number below 3           │
+-- │ is-accepted  │ a number below 3 is the verdict of an accepted frame            │
+-- │ not-accepted │ any other is not                                                │
+-- │ is-flag      │ a number below 2 is a pad flag                                  │
+-- │ not-flag     │ any other is not                                                │
+-- │ flag-ind     │ what holds of 0 and 1 holds of each pad flag                    │
+-- │ flag-number  │ a pad flag counts itself                                        │
+-- │ flag-few     │ a pad flag is 1 at most                                         │
+-- │ verdict-ind  │ what holds of the five verdict bytes holds of each              │
+-- │ every-by     │ a test of each number of a list, place by place                 │
+-- └──────────────┴─────────────────────────────────────────────────────────────────┘
+use mathlib.Core.Path.{_≡_, refl, sym, subst}
+use mathlib.Core.Bool.{Bool, true, false, cond, _||_}
+use mathlib.Core.List.{List, [], _∷_}
+use Prim.Native.Nat.{ℕ, zero, suc, _≤_, _<_}
+use native.Mathlib.Omega.{arith}
+use borrow.Author.Tests.{ne-eqb, eqb-true}
+use lib.Dec.{eqb}
+use lib.ListN.{length, getD}
+use Rattle.tally.specs.Refusals.{accepted, isVerdict, isFlag, every}
+
+pub below-three : (P : ℕ → Type 0) → P 0 → P 1 → P 2 → (v : ℕ) → v ≤ 2 → P v
+below-three P p q r zero h = p
+below-three P p q r (suc zero) h = q
+below-three P p q r (suc (suc zero)) h = r
+below-three P p q r (suc (suc (suc v))) h = absurd (omega arith)
+
+pub is-accepted : (v : ℕ) → v ≤ 2 → accepted v ≡ true
+is-accepted = below-three (λ v. accepted v ≡ true) refl refl refl
+
+pub not-accepted : (v : ℕ) → 2 < v → accepted v ≡ false
+not-accepted v h =
+    let a : v ≡ 0 → ⊥ = λ e. omega arith in
+    let b : v ≡ 1 → ⊥ = λ e. omega arith in
+    let c : v ≡ 2 → ⊥ = λ e. omega arith in
+    simp (ne-eqb v 0 a, ne-eqb v 1 b, ne-eqb v 2 c)
+
+pub is-flag : (p : ℕ) → p ≤ 1 → isFlag p ≡ true
+is-flag zero h = refl
+is-flag (suc zero) h = refl
+is-flag (suc (suc p)) h = absurd (omega arith)
+
+pub not-flag : (p : ℕ) → 1 < p → isFlag p ≡ false
+not-flag p h =
+    let a : p ≡ 0 → ⊥ = λ e. omega arith in
+    let b : p ≡ 1 → ⊥ = λ e. omega arith in
+    simp (ne-eqb p 0 a, ne-eqb p 1 b)
+
+pub flag-ind : (P : ℕ → Type 0) → P 0 → P 1 → (p : ℕ) → isFlag p ≡ true → P p
+flag-ind P a b p e = by (eqb p 0) refl e
+  where
+    by : (t : Bool) → eqb p 0 ≡ t → t || eqb p 1 ≡ true → P p
+    by true h e = subst P (sym (eqb-true p 0 h)) a
+    by false h e = subst P (sym (eqb-true p 1 e)) b
+
+pub flag-number : (p : ℕ) → isFlag p ≡ true → p ≡ cond (eqb p 1) 1 0
+flag-number = flag-ind (λ p. p ≡ cond (eqb p 1) 1 0) refl refl
+
+pub flag-few : (p : ℕ) → isFlag p ≡ true → p ≤ 1
+flag-few = flag-ind (λ p. p ≤ 1) (omega arith) (omega arith)
+
+module _ (P : ℕ → Type 0) where
+  at-last : (v k : ℕ) → P k → eqb v k ≡ true → P v
+  at-last v k p e = subst P (sym (eqb-true v k e)) p
+
+  pub verdict-ind : P 0 → P 1 → P 2 → P 13 → P 14 → (v : ℕ) → isVerdict v ≡ true → P v
+  verdict-ind p q r s t v e =
+      pick (accepted v || eqb v 13) 14 t (pick (accepted v) 13 s (pick (eqb v 0 || eqb v 1) 2 r (pick (eqb v 0) 1 q (at-last v 0 p)))) e
+    where
+      pick : (a : Bool) (k : ℕ) → P k → (a ≡ true → P v) → a || eqb v k ≡ true → P v
+      pick true k p f e = f refl
+      pick false k p f e = at-last v k p e
+
+pub every-by : (f : ℕ → Bool) (l : List ℕ) → ((i : ℕ) → i < length l → f (getD l i 0) ≡ true) → every f l ≡ true
+unfolding every
+every-by f [] h = refl
+every-by f (x ∷ l) h = simp (h 0 (omega arith), every-by f l (λ i k. h (suc i) (omega arith)))

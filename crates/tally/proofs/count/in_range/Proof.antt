@@ -1,0 +1,67 @@
+-- One count past the limit takes the sum past it.
+use mathlib.Core.Path.{_≡_}
+use mathlib.Core.Bool.{false}
+use Prim.Native.Nat.{_≤_, _<_}
+use native.Mathlib.Omega.{arith}
+use borrow.Author.Needs.{needs}
+use borrow.Author.Tests.{le-leb, lt-leb}
+use lib.Dec.{leb}
+use Rattle.tally.specs.Refusals.{mostFrames, acceptedIn, framesIn, inRange}
+use Rattle.tally.specs.declared.Tally.{Tally}
+use Rattle.tally.proofs.count.in_range.Statement.{statement}
+use Rattle.tally.proofs.count.in_range.Tie as tie
+
+past : (t : Tally) → mostFrames < framesIn t → false ≡ inRange t
+past t h = simp (lt-leb (framesIn t) mostFrames h)
+
+within : (t : Tally) → framesIn t ≤ mostFrames → leb (t .«pad_wrong») (acceptedIn t) ≡ inRange t
+within t h = simp (le-leb (framesIn t) mostFrames h)
+
+returns : tie.Need-returns
+returns c = past (c .before .before .args .t) (omega arith)
+
+returns-2 : tie.Need-returns-2
+returns-2 c = past (c .before .before .before .before .args .t) (omega arith)
+
+returns-3 : tie.Need-returns-3
+returns-3 c = past (c .before .before .before .before .before .before .args .t) (omega arith)
+
+returns-4 : tie.Need-returns-4
+returns-4 c = past (c .before .before .before .before .before .before .before .before .args .t) (omega arith)
+
+returns-5 : tie.Need-returns-5
+returns-5 c = past (c .before .before .before .before .before .before .before .before .before .before .args .t) (omega arith)
+
+add-accepted : tie.Need-add-accepted
+add-accepted c = search needs
+
+add-accepted-2 : tie.Need-add-accepted-2
+add-accepted-2 c = search needs
+
+add-if6 : tie.Need-add-if6
+add-if6 c = search needs
+
+add-if6-2 : tie.Need-add-if6-2
+add-if6-2 c = search needs
+
+returns-6 : tie.Need-returns-6
+returns-6 c = past (c .before .before .before .before .before .before .before .before .before .before .before .before .before .before .before .args .t) (omega arith)
+
+returns-7 : tie.Need-returns-7
+returns-7 c = within (c .before .before .before .before .before .before .before .before .before .before .before .before .before .before .before .before .args .t) (c .before .if6 .left)
+
+pub in-range-spec : {M : Type 1} → statement M
+in-range-spec =
+    tie.close
+    (tie.spec
+    returns
+    returns-2
+    returns-3
+    returns-4
+    returns-5
+    add-accepted
+    add-accepted-2
+    add-if6
+    add-if6-2
+    returns-6
+    returns-7)

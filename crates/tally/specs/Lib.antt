@@ -1,0 +1,4 @@
+pub mod Refusals
+pub mod Counts
+pub mod Adds
+pub mod Claims

@@ -4,6 +4,7 @@
 //
 // usage: count                       counts standard input and prints the eight lines of the listing
 //        count bytes SEED N          writes N bytes of frames: lawful ones with none to four flips, noise, still lines
+//        count triples               writes the frame of data 0 with each three of its 63 positions flipped
 //        count drip                  hands standard input on, a byte a write
 typedef unsigned char u8;
 typedef unsigned long u64;
@@ -166,22 +167,38 @@ static u64 some_frame(void)
     }
 }
 
-static int bytes(u64 seed, u64 n)
+// The first n bytes of a frame, at most eight.
+static int put(u64 f, u64 n)
 {
     u8 buffer[8];
-    state = seed;
-    while (n > 0) {
-        u64 f = some_frame(), take = n < 8 ? n : 8;
-        for (int i = 0; i < 8; i++)
-            buffer[i] = (u8)(f >> (56 - 8 * i));
-        for (u64 done = 0; done < take;) {
-            long put = write(1, buffer + done, take - done);
-            if (put <= 0)
-                return 1;
-            done += (u64)put;
-        }
-        n -= take;
+    for (int i = 0; i < 8; i++)
+        buffer[i] = (u8)(f >> (56 - 8 * i));
+    for (u64 done = 0; done < n;) {
+        long got = write(1, buffer + done, n - done);
+        if (got <= 0)
+            return 1;
+        done += (u64)got;
     }
+    return 0;
+}
+
+static int bytes(u64 seed, u64 n)
+{
+    state = seed;
+    for (; n > 8; n -= 8)
+        if (put(some_frame(), 8))
+            return 1;
+    return put(some_frame(), n);
+}
+
+static int triples(void)
+{
+    u64 f = lawful(0);
+    for (int a = 1; a < 64; a++)
+        for (int b = a + 1; b < 64; b++)
+            for (int c = b + 1; c < 64; c++)
+                if (put(f ^ 1ul << a ^ 1ul << b ^ 1ul << c, 8))
+                    return 1;
     return 0;
 }
 
@@ -199,6 +216,8 @@ int main(int argc, char **argv)
     field();
     if (argc == 4 && !strcmp(argv[1], "bytes"))
         return bytes(strtoul(argv[2], 0, 10), strtoul(argv[3], 0, 10));
+    if (argc == 2 && !strcmp(argv[1], "triples"))
+        return triples();
     if (argc == 2 && !strcmp(argv[1], "drip"))
         return drip();
     return count();

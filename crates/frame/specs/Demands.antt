@@ -18,6 +18,7 @@
 -- │ OneReading   │ no second `Reading` meets the contract of `read`                │
 -- │ OneMaking    │ no second `Making` meets that of `make`                         │
 -- │ OneMadeList  │ nor a second answer or list that of `make_list`                 │
+-- │ Numbers fs   │ each of fs is a 64-bit number                                   │
 -- │ OneReadList  │ that of `read_list`                                             │
 -- │ OneReadPads  │ that of `read_list_pads`                                        │
 -- └──────────────┴─────────────────────────────────────────────────────────────────┘
@@ -96,7 +97,6 @@ abbrev pub OneMadeList : Type 0
 OneMadeList = (ds fs₀ fs gs : List ℕ) (r s : Listed) → MakesList ds fs₀ (listed r) fs → MakesList ds fs₀ (listed s) gs
     → (r ≡ s) × (fs ≡ gs)
 
--- of 64-bit numbers
 abbrev pub Numbers : List ℕ → Type 0
 Numbers fs = (i : ℕ) → i < length fs → getD fs i 0 < 2 ^ 64
 

@@ -4,6 +4,7 @@
 -- │ anyTooLarge ds    │ one of the values is no data word                          │
 -- │ makeListAnswer    │ 12 for a short output, 11 for a value too large, else 0    │
 -- │ readListAnswer    │ 12 for a short output, else 0                              │
+-- │ readPadsAnswer    │ the same of three outputs                                  │
 -- │ DataOf f x        │ x is the data that a list shows for the frame f            │
 -- │ VerdictOf f x     │ x is its verdict byte                                      │
 -- │ PadFlagOf f x     │ x is its pad flag                                          │

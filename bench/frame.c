@@ -1,7 +1,7 @@
 // Counts of the frame calls: this driver runs one of them once over the first n of a fixed store of frames, so that the
 // difference between n and 2n frames is the call's own work. See bench/run.
 //
-// usage: frame rattle|c make|read|pads|single n clean|one|two
+// usage: frame rattle|c make|read|pads|single|bytes-make|bytes-read n clean|one|two
 #include "reader.h"
 
 #define STORE 8192
@@ -13,8 +13,12 @@ uint64_t measured_read_list(const uint64_t *frames, size_t frames_len, uint64_t 
 uint64_t measured_read_list_pads(const uint64_t *frames, size_t frames_len, uint64_t *data, size_t data_len, uint8_t *verdicts,
                                  size_t verdicts_len, uint8_t *pads, size_t pads_len);
 
+uint64_t lks_frames_make(const uint8_t *data, size_t data_len, uint8_t *frames, size_t frames_len);
+uint64_t lks_frames_read(const uint8_t *frames, size_t frames_len, uint8_t *data, size_t data_len, uint8_t *verdicts, size_t verdicts_len);
+
 static uint64_t data[STORE], frames[STORE], out[STORE];
 static uint8_t verdicts[STORE], pads[STORE];
+static uint8_t in_bytes[STORE * 8], out_bytes[STORE * 8];
 
 // ---- the same work in C
 
@@ -50,10 +54,59 @@ __attribute__((noinline)) static void c_read_list_pads(const uint64_t *f, size_t
         v[i] = c_read(f[i], &d[i], &p[i]);
 }
 
+static uint64_t get(const uint8_t *b)
+{
+    uint64_t x = 0;
+    for (int j = 0; j < 8; j++)
+        x = x << 8 | b[j];
+    return x;
+}
+
+static void put(uint8_t *b, uint64_t x)
+{
+    for (int j = 0; j < 8; j++)
+        b[j] = (uint8_t)(x >> (56 - 8 * j));
+}
+
+__attribute__((noinline)) static void c_make_bytes(const uint8_t *d, size_t n, uint8_t *f)
+{
+    for (size_t i = 0; i < n; i++)
+        if (get(d + 8 * i) >> 48)
+            return;
+    for (size_t i = 0; i < n; i++)
+        put(f + 8 * i, c_make(get(d + 8 * i)));
+}
+
+__attribute__((noinline)) static void c_read_bytes(const uint8_t *f, size_t n, uint8_t *d, uint8_t *v)
+{
+    uint64_t x;
+    uint8_t pad;
+    for (size_t i = 0; i < n; i++) {
+        v[i] = c_read(get(f + 8 * i), &x, &pad);
+        put(d + 8 * i, x);
+    }
+}
+
+static void on_bytes(int ours, int make, size_t n)
+{
+    for (size_t i = 0; i < STORE; i++)
+        put(in_bytes + 8 * i, make ? data[i] : frames[i]);
+    if (make && ours)
+        lks_frames_make(in_bytes, 8 * n, out_bytes, sizeof out_bytes);
+    else if (make)
+        c_make_bytes(in_bytes, n, out_bytes);
+    else if (ours)
+        lks_frames_read(in_bytes, 8 * n, out_bytes, sizeof out_bytes, verdicts, STORE);
+    else
+        c_read_bytes(in_bytes, n, out_bytes, verdicts);
+    for (size_t i = 0; i < STORE; i++)
+        out[i] = get(out_bytes + 8 * i);
+}
+
 int main(int argc, char **argv)
 {
     if (argc != 5)
-        return puts("usage: frame rattle|c make|read|pads|single N clean|one|two"), 2;
+        return puts("usage: frame rattle|c make|read|pads|single|bytes-make|bytes-read N clean|one|two"), 2;
     int ours = !strcmp(argv[1], "rattle");
     size_t n = strtoul(argv[3], NULL, 10);
     int flips = !strcmp(argv[4], "one") ? 1 : !strcmp(argv[4], "two") ? 2 : 0;
@@ -85,6 +138,8 @@ int main(int argc, char **argv)
             measured_read_list_pads(frames, n, out, STORE, verdicts, STORE, pads, STORE);
         else
             c_read_list_pads(frames, n, out, verdicts, pads);
+    } else if (!strcmp(argv[2], "bytes-make") || !strcmp(argv[2], "bytes-read")) {
+        on_bytes(ours, !strcmp(argv[2], "bytes-make"), n);
     } else {
         for (size_t i = 0; i < n; i++)
             verdicts[i] = ours ? measured_read(frames[i]) : c_read(frames[i], &out[i], &pads[i]);

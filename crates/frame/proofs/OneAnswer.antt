@@ -13,11 +13,16 @@ use native.Mathlib.Omega.{arith}
 use lib.ListN.{length, getD}
 use Rattle.laws.specs.Lent.{Leaves}
 use Rattle.laws.proofs.Writing.{one-leaves}
+use Rattle.octets.specs.Octets.{numbersOf}
+use Rattle.octets.specs.Lent.{LeavesBytes}
+use Rattle.octets.proofs.Joined.{numbers-lt}
+use Rattle.octets.proofs.Writing as octets
 use Rattle.frame.specs.Answers.{Answer, word, refused, placesOf, flag, answer, verdict, dataIn, padIn, making, listed}
 use Rattle.frame.specs.Reads.{Reads}
 use Rattle.frame.specs.Makes.{Makes}
 use Rattle.frame.specs.Lists.{MakesList, ReadsList, ReadsPads}
-use Rattle.frame.specs.Demands.{Numbers, OneReading, OneMaking, OneMadeList, OneReadList, OneReadPads}
+use Rattle.frame.specs.Bytes.{MakesBytes, ReadsBytes}
+use Rattle.frame.specs.Demands.{Numbers, OneReading, OneMaking, OneMadeList, OneReadList, OneReadPads, OneMadeBytes, OneReadBytes}
 use Rattle.frame.specs.declared.Flips.{Flips}
 use Rattle.frame.specs.declared.Flips.the-variants.{Nowhere, One, Two}
 use Rattle.frame.specs.declared.Reading.{Reading}
@@ -113,4 +118,25 @@ one-read-pads fs ds₀ vs₀ ps₀ ds ds′ vs vs′ ps ps′ r s n p q =
       left-one r s e (shown-one fs n dataIn) (p .«data») (q .«data»),
       left-one r s e (shown-one fs n verdict) (p .verdicts) (q .verdicts),
       left-one r s e (shown-one fs n padIn) (p .pads) (q .pads),
+    )
+
+-- lent bytes, after two calls of one number
+bytes-one : {R : ℕ → ℕ → Type 0} {xs out₀ a b : List ℕ} (r s : Listed) → r ≡ s
+    → ((i : ℕ) → i < length xs → (x y : ℕ) → R (getD xs i 0) x → R (getD xs i 0) y → x ≡ y)
+    → LeavesBytes (listed r) R xs out₀ a → LeavesBytes (listed s) R xs out₀ b → a ≡ b
+bytes-one {R} {xs} {out₀} {a} {b} r s e one p q =
+    octets.one-leaves one (subst (λ (t : Listed). LeavesBytes (listed t) R xs out₀ a) e p) q
+
+pub one-made-bytes : OneMadeBytes
+one-made-bytes ds fs₀ fs gs r s p q =
+    let e : r ≡ s = listed-one r s (p .number ∙ sym (q .number)) in
+    (e, bytes-one r s e (λ i h x y. one-frame (getD (numbersOf ds) i 0) x y) (p .frames) (q .frames))
+
+pub one-read-bytes : OneReadBytes
+one-read-bytes fs ds₀ vs₀ ds ds′ vs vs′ r s o p q =
+    let e : r ≡ s = listed-one r s (p .number ∙ sym (q .number)) in
+    let n : Numbers (numbersOf fs) = numbers-lt fs o in (
+      e,
+      bytes-one r s e (shown-one (numbersOf fs) n dataIn) (p .«data») (q .«data»),
+      left-one r s e (shown-one (numbersOf fs) n verdict) (p .verdicts) (q .verdicts),
     )

@@ -21,6 +21,9 @@
 -- │ Numbers fs   │ each of fs is a 64-bit number                                   │
 -- │ OneReadList  │ that of `read_list`                                             │
 -- │ OneReadPads  │ that of `read_list_pads`                                        │
+-- │ OneMadeBytes │ that of `make_bytes`                                            │
+-- │ Octets bs    │ each of bs is a byte                                            │
+-- │ OneReadBytes │ that of `read_bytes`                                            │
 -- └──────────────┴─────────────────────────────────────────────────────────────────┘
 use mathlib.Core.Path.{_≡_}
 use mathlib.Core.List.{List, []}
@@ -32,6 +35,7 @@ use Rattle.frame.specs.Answers.{Answer, word, refused, answer, listed}
 use Rattle.frame.specs.Reads.{ReadAs, NothingNear, BrokenNear, Reads}
 use Rattle.frame.specs.Makes.{Makes}
 use Rattle.frame.specs.Lists.{MakesList, ReadsList, ReadsPads}
+use Rattle.frame.specs.Bytes.{MakesBytes, ReadsBytes}
 use Rattle.frame.specs.Line.{AllLawful, Run, longestRun}
 use Rattle.frame.specs.declared.Reading.{Reading}
 use Rattle.frame.specs.declared.Making.{Making}
@@ -108,3 +112,14 @@ abbrev pub OneReadPads : Type 0
 OneReadPads = (fs ds₀ vs₀ ps₀ ds ds′ vs vs′ ps ps′ : List ℕ) (r s : Listed) → Numbers fs
     → ReadsPads fs ds₀ vs₀ ps₀ (listed r) ds vs ps → ReadsPads fs ds₀ vs₀ ps₀ (listed s) ds′ vs′ ps′
     → (r ≡ s) × (ds ≡ ds′) × (vs ≡ vs′) × (ps ≡ ps′)
+
+abbrev pub OneMadeBytes : Type 0
+OneMadeBytes = (ds fs₀ fs gs : List ℕ) (r s : Listed) → MakesBytes ds fs₀ (listed r) fs → MakesBytes ds fs₀ (listed s) gs
+    → (r ≡ s) × (fs ≡ gs)
+
+abbrev pub Octets : List ℕ → Type 0
+Octets bs = (i : ℕ) → getD bs i 0 < 256
+
+abbrev pub OneReadBytes : Type 0
+OneReadBytes = (fs ds₀ vs₀ ds ds′ vs vs′ : List ℕ) (r s : Listed) → Octets fs
+    → ReadsBytes fs ds₀ vs₀ (listed r) ds vs → ReadsBytes fs ds₀ vs₀ (listed s) ds′ vs′ → (r ≡ s) × (ds ≡ ds′) × (vs ≡ vs′)

@@ -3,6 +3,7 @@ pub mod Answers
 pub mod Reads
 pub mod Makes
 pub mod Lists
+pub mod Bytes
 pub mod Line
 pub mod Demands
 pub mod Parts

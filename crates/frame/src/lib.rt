@@ -5,9 +5,13 @@ ghost use Rattle.frame.specs.Reads.{Reads};
 ghost use Rattle.frame.specs.Makes.{Makes};
 ghost use Rattle.frame.specs.Lists.{MakesList, ReadsList, ReadsPads};
 
+mod bytes;
 mod layout;
 mod lists;
 mod mend;
+
+pub use bytes::make_bytes;
+pub use bytes::read_bytes;
 
 // The places of the flips that were undone, the lower first.
 pub enum Flips {
@@ -33,7 +37,7 @@ pub enum Making {
     TooLarge,
 }
 
-// What a list call answers: done, or 12, or 11.
+// What a list call answers: done, or 12 for lengths that do not fit, or 11.
 pub enum Listed {
     Done,
     Short,

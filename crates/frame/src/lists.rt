@@ -38,7 +38,7 @@ pub(crate) fn make_all(data: &[u64], frames: &mut [u64])
     }
 }
 
-fn data_in(r: Reading) -> u64
+pub(crate) fn data_in(r: Reading) -> u64
     ensures { λ x. ⌜ x ≡ dataIn (answer r) ⌝ }
 {
     match r {

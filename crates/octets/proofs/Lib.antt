@@ -1,1 +1,3 @@
 pub mod Joined
+pub mod Stored
+pub mod Writing

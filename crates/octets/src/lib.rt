@@ -1,8 +1,8 @@
 // Bytes and 64-bit numbers, eight bytes a number, highest first.
 ghost use mathlib.Core.Path.{_≡_};
 ghost use Prim.Native.Nat.{min, _+_, _*_, _≤_, _<_, _^_};
-ghost use lib.ListN.{length};
-ghost use Rattle.octets.specs.Octets.{joined, Taken};
+ghost use lib.ListN.{length, getD};
+ghost use Rattle.octets.specs.Octets.{joined, numbersOf, eight, stored, Taken};
 
 fn four(a: u8, b: u8, c: u8, d: u8) -> u64
     ensures { λ r. ⌜ (r ≡ ((a * 256 + b) * 256 + c) * 256 + d) × (r < 2 ^ 32) ⌝ }
@@ -36,4 +36,39 @@ pub fn numbers(bytes: &[u8], out: &mut [u64]) -> usize
         i += 1;
     }
     n
+}
+
+// Number i of the whole eights of `bytes`, 0 where there is none.
+pub fn number(bytes: &[u8], i: usize) -> u64
+    ensures { λ r. ⌜ r ≡ getD (numbersOf (now (bytes .entry))) i 0 ⌝ }
+{
+    if i < bytes.len() / 8 {
+        return number_at(bytes, i * 8);
+    }
+    0
+}
+
+// The eight bytes of x, highest first.
+fn put(out: &mut [u8], x: u64)
+    requires { ⌜ length (now out) ≡ 8 ⌝ }
+    ensures { λ _. ⌜ now (out .exit) ≡ eight x ⌝ }
+{
+    out[0] = ((x >> 56) % 256) as u8;
+    out[1] = ((x >> 48) % 256) as u8;
+    out[2] = ((x >> 40) % 256) as u8;
+    out[3] = ((x >> 32) % 256) as u8;
+    out[4] = ((x >> 24) % 256) as u8;
+    out[5] = ((x >> 16) % 256) as u8;
+    out[6] = ((x >> 8) % 256) as u8;
+    out[7] = (x % 256) as u8;
+}
+
+// x as number i of the eights of `out`, which stays as it is where it has no such eight.
+pub fn store(out: &mut [u8], i: usize, x: u64)
+    ensures { λ _. ⌜ now (out .exit) ≡ stored (now (out .entry)) i x ⌝ }
+{
+    if i < out.len() / 8 {
+        let a = i * 8;
+        put(&mut out[a..a + 8], x);
+    }
 }

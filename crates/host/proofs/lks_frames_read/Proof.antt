@@ -1,0 +1,23 @@
+-- `host::lks_frames_read` meets its contract: that of `frame::read_bytes`, with its answer's number.
+use borrow.Author.Needs.{needs}
+use Rattle.host.proofs.lks_frames_read.Statement.{statement}
+use Rattle.host.proofs.lks_frames_read.Tie as tie
+
+read-bytes-requires : tie.Need-read-bytes-requires
+read-bytes-requires c κs = search needs
+
+number-of-requires : tie.Need-number-of-requires
+number-of-requires c κs = search needs
+
+same-length : tie.Need-same-length
+same-length c = search needs
+
+same-length-2 : tie.Need-same-length-2
+same-length-2 c = search needs
+
+returns : tie.Need-returns
+returns c = rw (c .number-of .ensures) (c .before .before .before .before .before .read-bytes .ensures)
+
+pub lks-frames-read-spec : {M : Type 1} → statement M
+lks-frames-read-spec =
+    tie.close (tie.spec read-bytes-requires number-of-requires same-length same-length-2 returns)

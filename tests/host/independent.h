@@ -1,0 +1,16 @@
+// The second program's maker and reader of frames: see independent.c.
+#ifndef INDEPENDENT_H
+#define INDEPENDENT_H
+#include "plain.h"
+
+// verdict: 0, 1 or 2 flips, or the refusals 13 and 14, which leave data and pad_wrong 0 and no place.
+struct reading {
+    unsigned verdict;
+    uint64_t data;
+    unsigned place[2]; // the lower first; 255 where there is none
+    unsigned pad_wrong;
+};
+
+uint64_t independent_make(uint64_t data); // the frame, or 11
+struct reading independent_read(uint64_t frame);
+#endif

@@ -7,10 +7,10 @@
 #define STORE 8192
 
 uint8_t measured_read(uint64_t frame);
-uint64_t measured_make_list(const uint64_t *data, size_t data_len, uint64_t *frames, size_t frames_len);
-uint64_t measured_read_list(const uint64_t *frames, size_t frames_len, uint64_t *data, size_t data_len, uint8_t *verdicts,
+uint8_t measured_make_list(const uint64_t *data, size_t data_len, uint64_t *frames, size_t frames_len);
+uint8_t measured_read_list(const uint64_t *frames, size_t frames_len, uint64_t *data, size_t data_len, uint8_t *verdicts,
                             size_t verdicts_len);
-uint64_t measured_read_list_pads(const uint64_t *frames, size_t frames_len, uint64_t *data, size_t data_len, uint8_t *verdicts,
+uint8_t measured_read_list_pads(const uint64_t *frames, size_t frames_len, uint64_t *data, size_t data_len, uint8_t *verdicts,
                                  size_t verdicts_len, uint8_t *pads, size_t pads_len);
 
 uint64_t lks_frames_make(const uint8_t *data, size_t data_len, uint8_t *frames, size_t frames_len);
@@ -103,17 +103,9 @@ static void on_bytes(int ours, int make, size_t n)
         out[i] = get(out_bytes + 8 * i);
 }
 
-int main(int argc, char **argv)
+static void make_input(int flips)
 {
-    if (argc != 5)
-        return puts("usage: frame rattle|c make|read|pads|single|bytes-make|bytes-read N clean|one|two"), 2;
-    int ours = !strcmp(argv[1], "rattle");
-    size_t n = strtoul(argv[3], NULL, 10);
-    int flips = !strcmp(argv[4], "one") ? 1 : !strcmp(argv[4], "two") ? 2 : 0;
-    uint64_t x = 88172645463325252ull, sum = 0;
-    if (n > STORE)
-        return 2;
-    tables();
+    uint64_t x = 88172645463325252ull;
     for (size_t i = 0; i < STORE; i++) {
         x ^= x << 13, x ^= x >> 7, x ^= x << 17;
         data[i] = x >> 16;
@@ -123,27 +115,44 @@ int main(int argc, char **argv)
         if (flips > 1)
             frames[i] ^= 1ull << (32 + x % 32);
     }
-    if (!strcmp(argv[2], "make")) {
+}
+
+static void work(const char *call, int ours, size_t n)
+{
+    if (!strcmp(call, "make")) {
         if (ours)
             measured_make_list(data, n, out, STORE);
         else
             c_make_list(data, n, out);
-    } else if (!strcmp(argv[2], "read")) {
+    } else if (!strcmp(call, "read")) {
         if (ours)
             measured_read_list(frames, n, out, STORE, verdicts, STORE);
         else
             c_read_list(frames, n, out, verdicts);
-    } else if (!strcmp(argv[2], "pads")) {
+    } else if (!strcmp(call, "pads")) {
         if (ours)
             measured_read_list_pads(frames, n, out, STORE, verdicts, STORE, pads, STORE);
         else
             c_read_list_pads(frames, n, out, verdicts, pads);
-    } else if (!strcmp(argv[2], "bytes-make") || !strcmp(argv[2], "bytes-read")) {
-        on_bytes(ours, !strcmp(argv[2], "bytes-make"), n);
+    } else if (!strcmp(call, "bytes-make") || !strcmp(call, "bytes-read")) {
+        on_bytes(ours, !strcmp(call, "bytes-make"), n);
     } else {
         for (size_t i = 0; i < n; i++)
             verdicts[i] = ours ? measured_read(frames[i]) : c_read(frames[i], &out[i], &pads[i]);
     }
+}
+
+int main(int argc, char **argv)
+{
+    if (argc != 5)
+        return puts("usage: frame rattle|c make|read|pads|single|bytes-make|bytes-read N clean|one|two"), 2;
+    size_t n = strtoul(argv[3], NULL, 10);
+    uint64_t sum = 0;
+    if (n > STORE)
+        return 2;
+    tables();
+    make_input(!strcmp(argv[4], "one") ? 1 : !strcmp(argv[4], "two") ? 2 : 0);
+    work(argv[2], !strcmp(argv[1], "rattle"), n);
     for (size_t i = 0; i < STORE; i++)
         sum += out[i] * 31 + verdicts[i] + pads[i];
     return printf("%llu\n", (unsigned long long)sum) < 0;

@@ -21,40 +21,7 @@ mod fills;
 mod say;
 mod wires;
 
-ghost use Rattle.io.specs.Counts.{Counts};
 use libc::STDERR_FILENO;
-use libc::STDIN_FILENO;
-
-// How much of a buffer was filled before the input ended or a read failed.
-struct Filled {
-    bytes: usize,
-    failed: bool,
-}
-
-// Reads until the buffer is full or the input ends. A read may hand over any number of bytes.
-fn fill(buffer: &mut [u8]) -> Filled
-    ensures { λ r. ⌜ Counts (r .bytes) (now (buffer .exit)) ⌝ }
-{
-    let mut done = 0;
-    while done < buffer.len() {
-        let got = libc::read(STDIN_FILENO, &mut buffer[done..]);
-        if got < 0 {
-            return Filled {
-                bytes: done,
-                failed: true,
-            };
-        }
-        let n = io::count(got, &buffer[done..]);
-        if n == 0 {
-            break;
-        }
-        done += n;
-    }
-    Filled {
-        bytes: done,
-        failed: false,
-    }
-}
 
 fn answer(kind: u8, body: &[u8]) {
     match kind {
@@ -98,7 +65,7 @@ fn answers(s: &[u8]) {
 
 fn main() {
     let mut buffer = [0u8; 65537];
-    let filled = fill(&mut buffer);
+    let filled = input::fill(&mut buffer);
     if filled.failed {
         io::write_all(
             STDERR_FILENO,

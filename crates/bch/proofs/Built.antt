@@ -6,9 +6,9 @@
 use mathlib.Core.Path.{refl}
 use mathlib.Core.Bool.{Bool, true, false}
 use mathlib.Core.List.{List, [], _∷_, _++_}
-use Prim.Native.Nat.{ℕ, zero, suc, _/_, _%_, _<_}
+use Prim.Native.Nat.{ℕ, zero, suc, _/_, _%_}
 use lib.ListN.{getD, set}
-use Rattle.bch.specs.Corrections.{valid, filled, empty, Entry, Corrections}
+use Rattle.bch.specs.Corrections.{valid, filled, empty, Corrections}
 use Rattle.bch.proofs.Spots.{quick}
 use Rattle.bch.proofs.Rule.{sound?, whole?, is-corrections}
 

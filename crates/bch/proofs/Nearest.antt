@@ -4,25 +4,26 @@
 -- │ found         │ a code word within two flips is the one that the entry says    │
 -- │ mended        │ what an entry says gives a code word, at its places            │
 -- │ no-word       │ where the entry is 0, every code word is further               │
--- │ one-word      │ no two code words are within two flips of one word             │
--- │ nearest       │ one within two flips is nearer than any other                  │
--- │ entry-of      │ the entry of the table                                             │
+-- │ entry-of      │ the entry of the table                                         │
+-- │ one-word,     │ the claims of specs/Claims.antt by these names                 │
+-- │ nearest       │                                                                │
 -- └───────────────┴────────────────────────────────────────────────────────────────┘
-use mathlib.Core.Path.{_≡_, refl, sym, ap, ap₂, _∙_, subst}
-use Prim.Native.Nat.{ℕ, _%_, _^_, _<_, _≤_}
+use mathlib.Core.Path.{_≡_, sym, ap, _∙_, subst}
+use Prim.Native.Nat.{ℕ, _^_, _<_, _≤_}
 use native.Mathlib.Decide.{decLe}
 use native.Mathlib.Nat.{mod-eq-of-lt}
 use native.Mathlib.Omega.{arith}
 use lib.Bits.{bitXor, xor-self, xor-lt, xor-comm}
 use lib.Dec.{T}
 use lib.ListN.{length, getD}
-use Rattle.laws.proofs.Xor.{xor-again, xor-cancel}
+use Rattle.laws.proofs.Xor.{xor-cancel}
 use Rattle.poly.specs.Poly.{rem}
-use Rattle.poly.proofs.Division.{rem-xor, rem-lt, times-lt, divisible→rem, rem→divisible}
+use Rattle.poly.proofs.Division.{rem-xor, rem-lt, times-lt, leaves-nothing, is-divisible}
 use Rattle.bch.specs.Code.{CodeWord, differences, distance}
 use Rattle.bch.specs.Corrections.{valid, pattern, places, Entry}
+use Rattle.bch.specs.Claims.{OneWord, Nearest}
 use Rattle.bch.proofs.Spots.{pattern-lt}
-use Rattle.bch.proofs.Ones.{differ-ups, ups, sumOf, rebuild, Rising, ups-rising, pattern-of}
+use Rattle.bch.proofs.Ones.{differ-ups, ups, rebuild, ups-rising, pattern-of}
 use Rattle.bch.proofs.Shown.{shown}
 use Rattle.bch.proofs.Built.{table, table-right}
 
@@ -43,7 +44,7 @@ module _ (v : ℕ) (h : v < 2 ^ 63) where
       by : (n : ℕ) × (n < 4096) × T (valid n) × (pattern n ≡ bitXor w v) → T (valid e) × (w ≡ bitXor v (pattern e))
       by (n, s, y, q) =
           let r : rem 63 (pattern n) ≡ rem 63 v =
-          ap (rem 63) q ∙ rem-xor 63 w v ∙ ap (λ (x : ℕ). bitXor x (rem 63 v)) (divisible→rem 51 w c) in
+          ap (rem 63) q ∙ rem-xor 63 w v ∙ ap (λ (x : ℕ). bitXor x (rem 63 v)) (leaves-nothing 51 w c) in
           let k : n ≡ e = t .whole n s y r in (
             subst (λ (x : ℕ). T (valid x)) k y,
             sym (ap (bitXor v) (ap pattern (sym k) ∙ q ∙ xor-comm w v) ∙ xor-cancel v w),
@@ -53,7 +54,7 @@ module _ (v : ℕ) (h : v < 2 ^ 63) where
       → CodeWord (bitXor v (pattern e)) × (differences (bitXor v (pattern e)) v ≡ places e)
   mended e t n =
       let s : T (valid e) × (rem 63 (pattern e) ≡ rem 63 v) = t .sound n in (
-        rem→divisible 51 (bitXor v (pattern e)) (xor-lt 63 v (pattern e) h (pattern-lt e))
+        is-divisible 51 (bitXor v (pattern e)) (xor-lt 63 v (pattern e) h (pattern-lt e))
             (rem-xor 63 v (pattern e) ∙ ap (bitXor (rem 63 v)) (s .1) ∙ xor-self (rem 63 v)),
         shown (bitXor v (pattern e)) v e (t .small) (s .0) (xor-comm (bitXor v (pattern e)) v ∙ xor-cancel v (pattern e)),
       )
@@ -68,12 +69,12 @@ module _ (v : ℕ) (h : v < 2 ^ 63) where
   pub entry-of : Entry (rem 63 v) (getD table (rem 63 v) 0)
   entry-of = table-right .right (rem 63 v) (rem-lt 63 v)
 
-  pub one-word : (w w′ : ℕ) → CodeWord w → CodeWord w′ → distance w v ≤ 2 → distance w′ v ≤ 2 → w ≡ w′
-  one-word w w′ c c′ l l′ = found _ w entry-of c l .1 ∙ sym (found _ w′ entry-of c′ l′ .1)
+pub one-word : OneWord
+one-word v h w w′ c c′ l l′ = found v h _ w (entry-of v h) c l .1 ∙ sym (found v h _ w′ (entry-of v h) c′ l′ .1)
 
-  pub nearest : (w w′ : ℕ) → CodeWord w → CodeWord w′ → distance w v ≤ 2 → (w ≡ w′ → ⊥) → distance w v < distance w′ v
-  nearest w w′ c c′ l n = by (decLe (distance w′ v) 2)
-    where
-      by : Dec (distance w′ v ≤ 2) → distance w v < distance w′ v
-      by (yes l′) = absurd (n (one-word w w′ c c′ l l′))
-      by (no m) = omega arith
+pub nearest : Nearest
+nearest v h w w′ c c′ l n = by (decLe (distance w′ v) 2)
+  where
+    by : Dec (distance w′ v ≤ 2) → distance w v < distance w′ v
+    by (yes l′) = absurd (n (one-word v h w w′ c c′ l l′))
+    by (no m) = omega arith

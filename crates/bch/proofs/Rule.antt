@@ -4,7 +4,7 @@
 -- │ is-corrections  │ a list of 4,096 that passes it, counted, is `Corrections`    │
 -- │ one-corrections │ there is no second one                                       │
 -- └─────────────────┴──────────────────────────────────────────────────────────────┘
-use mathlib.Core.Path.{_≡_, refl, sym, ap, _∙_, subst}
+use mathlib.Core.Path.{_≡_, sym, ap, _∙_, subst}
 use mathlib.Core.Bool.{Bool, not, _&&_, _||_}
 use mathlib.Core.List.{List, [], _∷_}
 use Prim.Native.Nat.{ℕ, zero, suc, _+_, _*_, _/_, _%_, _<_}
@@ -16,9 +16,9 @@ use lib.ListN.{getD, length, take, drop}
 use lib.Seq.{getD-take, getD-drop, ext-getD}
 use Rattle.laws.proofs.Truth.{and-l, and-r, or-r, implied}
 use Rattle.laws.proofs.Computed.{at, every, upto, below}
-use Rattle.poly.specs.Poly.{rem}
 use Rattle.poly.proofs.Division.{rem-lt}
 use Rattle.bch.specs.Corrections.{valid, pattern, Entry, filled, empty, filledEntries, emptyEntries, Corrections}
+use Rattle.bch.specs.Claims.{OneCorrections}
 use Rattle.bch.proofs.Spots.{quick, quick-right}
 
 unfoldable pub sound? : ℕ → ℕ → Bool
@@ -85,7 +85,7 @@ one-entry r d e p q = by (ℕ-discrete d 0) (ℕ-discrete e 0)
     by (yes y) (no n) = let s = q .sound n in sym (p .whole e (q .small) (s .0) (s .1))
     by (yes y) (yes z) = y ∙ sym z
 
-pub one-corrections : (t u : List ℕ) → Corrections t → Corrections u → t ≡ u
+pub one-corrections : OneCorrections
 one-corrections t u p q =
     ext-getD 0 t u (p .size ∙ sym (q .size))
     (λ i h.

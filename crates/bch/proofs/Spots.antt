@@ -9,7 +9,7 @@
 use mathlib.Core.Path.{_≡_, ap, ap₂, _∙_}
 use mathlib.Core.Bool.{Bool}
 use mathlib.Core.List.{List, [], _∷_}
-use Prim.Native.Nat.{ℕ, _+_, _-_, _*_, _/_, _%_, _^_, _<_}
+use Prim.Native.Nat.{ℕ, _+_, _-_, _/_, _%_, _^_, _<_}
 use native.Mathlib.Nat.{lt-of-le-of-lt, div-le-self}
 use native.Mathlib.Omega.{arith}
 use lib.Bits.{bitXor, xor-lt}

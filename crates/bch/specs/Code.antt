@@ -1,5 +1,6 @@
 -- The code BCH(63,51). A word is 63 positions, held as a number below 2^63: position i is the coefficient of x^(62-i).
 -- ┌───────────────────┬────────────────────────────────────────────────────────────┐
+-- │ freeBits          │ 51: the positions of a word that twelve others check       │
 -- │ CodeWord w        │ w is divisible by g: 51 coefficients times g               │
 -- │ bit w i           │ position i of the word w                                   │
 -- │ differing n k v w │ the positions, among the last k of n, at which v and w     │
@@ -12,10 +13,13 @@ use mathlib.Core.List.{List, [], _∷_}
 use Prim.Native.Nat.{ℕ, zero, suc, _-_, _/_, _%_, _^_}
 use lib.Dec.{eqb}
 use lib.ListN.{length}
-use Rattle.poly.specs.Poly.{Divisible}
+use Rattle.poly.specs.Poly.{wordBits, Divisible}
+
+abbrev pub freeBits : ℕ
+freeBits = 51
 
 abbrev pub CodeWord : ℕ → Type 0
-CodeWord w = Divisible 51 w
+CodeWord w = Divisible freeBits w
 
 abbrev pub bit : ℕ → ℕ → ℕ
 bit w i = w / 2 ^ (62 - i) % 2
@@ -31,7 +35,7 @@ differing n zero v w = []
 differing n (suc k) v w = keep (not (eqb (v / 2 ^ k % 2) (w / 2 ^ k % 2))) (n - suc k) (differing n k v w)
 
 abbrev pub differences : ℕ → ℕ → List ℕ
-differences v w = differing 63 63 v w
+differences v w = differing wordBits wordBits v w
 
 abbrev pub distance : ℕ → ℕ → ℕ
 distance v w = length (differences v w)

@@ -19,7 +19,7 @@ use Prim.Native.Nat.{ℕ, zero, suc, _/_, _%_, _^_, _<_}
 use lib.Bits.{bitXor}
 use lib.Dec.{T, ltb, eqb}
 use lib.ListN.{length, getD}
-use Rattle.poly.specs.Poly.{rem}
+use Rattle.poly.specs.Poly.{wordBits, rem}
 use Rattle.bch.specs.Code.{keep}
 
 abbrev pub spot : ℕ → ℕ
@@ -36,8 +36,8 @@ pattern e = bitXor (spot (e / 64)) (spot (e % 64))
 
 pub record Entry (r e : ℕ) : Type 0 where
   pub small : e < 4096
-  pub sound : (e ≡ 0 → ⊥) → T (valid e) × (rem 63 (pattern e) ≡ r)
-  pub whole : (n : ℕ) → n < 4096 → T (valid n) → rem 63 (pattern n) ≡ r → n ≡ e
+  pub sound : (e ≡ 0 → ⊥) → T (valid e) × (rem wordBits (pattern e) ≡ r)
+  pub whole : (n : ℕ) → n < 4096 → T (valid n) → rem wordBits (pattern n) ≡ r → n ≡ e
 
 unfoldable pub filled : List ℕ → ℕ
 filled [] = 0

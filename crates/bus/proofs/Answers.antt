@@ -12,7 +12,8 @@ use Rattle.bus.specs.declared.Driven.{Driven}
 use Rattle.bus.specs.declared.Driven.the-variants.{Now, NotDriven}
 use Rattle.bus.specs.declared.Received.{Received}
 use Rattle.bus.specs.declared.Received.the-variants.{Word, NotReceived}
-use Rattle.bus.specs.Calls.{drivenNumber, receivedNumber, State, Content, Starts, Sends, Receives}
+use Rattle.bus.specs.Calls.{drivenNumber, receivedNumber, State, Content}
+use Rattle.bus.specs.Claims.{OneStart, OneSend, OneReceive}
 
 apart-11 : _≡_ {A = ℕ} 0 11 → ⊥
 apart-11 = eqb-false 0 11 refl
@@ -29,11 +30,11 @@ one-received (Word a) NotReceived y e p q = absurd (apart-11 e)
 one-received NotReceived (Word b) y e p q = absurd (apart-11 (sym e))
 one-received NotReceived NotReceived y e p q = refl
 
-pub one-start : (w : ℕ) (r s : Driven) → Starts w r → Starts w s → r ≡ s
+pub one-start : OneStart
 one-start w r s p q = one-driven r s _ (p .number ∙ sym (q .number)) (p .state) (q .state)
 
-pub one-send : (b : Bus) (y : ℕ) (r s : Driven) → Sends b y r → Sends b y s → r ≡ s
+pub one-send : OneSend
 one-send b y r s p q = one-driven r s _ (p .number ∙ sym (q .number)) (p .state) (q .state)
 
-pub one-receive : (w x v : ℕ) (r s : Received) → Receives w x v r → Receives w x v s → r ≡ s
+pub one-receive : OneReceive
 one-receive w x v r s p q = one-received r s _ (p .number ∙ sym (q .number)) (p .content) (q .content)

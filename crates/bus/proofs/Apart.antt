@@ -1,8 +1,8 @@
 -- The wires that differ, counted by index, by halves, and as ones of the exclusive-or. Once over the width.
--- ┌─────────────┬───────────────────────────────────────────────────────────────────┐
--- │ apart-half  │ the lowest wire apart, and the others by halves                   │
--- │ count-apart │ what `count_ones` of the exclusive-or counts                      │
--- └─────────────┴───────────────────────────────────────────────────────────────────┘
+-- ┌────────────────┬─────────────────────────────────────────────────┐
+-- │ apart-half     │ the lowest wire apart, and the others by halves │
+-- │ count-is-apart │ what `count_ones` of the exclusive-or counts    │
+-- └────────────────┴─────────────────────────────────────────────────┘
 use mathlib.Core.Path.{_≡_, refl, sym, ap, ap₂, _∙_}
 use Prim.Native.Nat.{ℕ, zero, suc, _+_, _/_, _%_, _^_, _<_}
 use native.Mathlib.Nat.{pow-suc, add-left-comm}
@@ -11,7 +11,8 @@ use lib.Pow.{shr-shr}
 use lib.Bits.{bitXor, differ}
 use lib.Count.{ones, ones-step}
 use Rattle.laws.proofs.Xor.{bit-lt, bit-ind, xor-half, xor-odd}
-use Rattle.bus.specs.Wires.{wire, unlike, apart}
+use Rattle.laws.specs.Bits.{unlike}
+use Rattle.bus.specs.Wires.{wire, apart}
 use Rattle.bus.specs.Claims.{CountIsApart}
 
 -- wire n of the upper half is wire n + 1
@@ -38,14 +39,14 @@ none : (x y : ℕ) → ones (bitXor 0 0) ≡ apart 0 x y
 unfolding ones apart
 none x y = refl
 
-pub count-apart : CountIsApart
-count-apart zero x y h k =
+pub count-is-apart : CountIsApart
+count-is-apart zero x y h k =
     let X : x ≡ 0 = omega arith in
     let Y : y ≡ 0 = omega arith in
     ap₂ (λ (a b : ℕ). ones (bitXor a b)) X Y ∙ none x y
-count-apart (suc w) x y h k =
+count-is-apart (suc w) x y h k =
     let X : x / 2 < 2 ^ w = omega (arith, pow-suc 2 w) in
     let Y : y / 2 < 2 ^ w = omega (arith, pow-suc 2 w) in
     ones-step (bitXor x y)
-    ∙ ap₂ (λ (a b : ℕ). a + b) (xor-odd x y ∙ differ-unlike x y) (ap ones (xor-half x y) ∙ count-apart w (x / 2) (y / 2) X Y)
+    ∙ ap₂ (λ (a b : ℕ). a + b) (xor-odd x y ∙ differ-unlike x y) (ap ones (xor-half x y) ∙ count-is-apart w (x / 2) (y / 2) X Y)
     ∙ sym (apart-half w x y)

@@ -11,7 +11,8 @@ use native.Mathlib.Nat.{pow-suc, mod-eq-of-lt}
 use native.Mathlib.Omega.{arith}
 use lib.Pow.{mod-pow-add}
 use Rattle.laws.proofs.Xor.{bit-lt, bit-ind}
-use Rattle.bus.specs.Wires.{wire, unlike, apart, inverted}
+use Rattle.laws.specs.Bits.{unlike}
+use Rattle.bus.specs.Wires.{wire, apart, inverted}
 use Rattle.bus.proofs.Apart.{apart-half}
 
 either : (d p : ℕ) → d < 2 → (1 - d) * p + d * p ≡ p

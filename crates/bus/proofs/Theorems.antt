@@ -17,14 +17,15 @@ use Rattle.bus.specs.declared.Driven.the-variants.{Now}
 use Rattle.bus.specs.declared.Received.the-variants.{Word}
 use Rattle.bus.specs.Wires.{apart}
 use Rattle.bus.specs.Rule.{lawful, crowded, sent, undone}
-use Rattle.bus.specs.Calls.{row11, Sends}
+use Rattle.paper.specs.Numbers.{outside, unless}
+use Rattle.bus.specs.Calls.{Sends}
 use Rattle.bus.specs.Claims.{BeginsLawful, StaysLawful, HalfAtMost, Undoes}
 use Rattle.laws.proofs.Truth.{two}
 use Rattle.bus.proofs.Range.{InRange, in-range, is-lawful}
 use Rattle.bus.proofs.Inverse.{inverted-lt, twice, apart-turned}
 use Rattle.bus.proofs.Answers.{one-receive}
 
-pub accepted : (t : Bool) → 0 ≡ row11 t → t ≡ true
+pub accepted : (t : Bool) → 0 ≡ (unless outside) t → t ≡ true
 accepted true e = refl
 accepted false e = absurd (eqb-false 0 11 refl e)
 
@@ -53,7 +54,7 @@ pub undoes : Undoes
 undoes b n y r s p =
     one-receive _ _ _ r (Word y) p
     (record {
-      number = ap row11 (sym (stays-lawful b n y s));
+      number = ap (unless outside) (sym (stays-lawful b n y s));
       content = rw (s .state) (sym (sent-undone (crowded (b .width) (b .wires) y) (b .width) y (taken b n y s .1 .below)));
     })
 

@@ -1,6 +1,5 @@
 -- What each call promises: the answer's number in the paper's table and, where it answers, its value.
 -- ┌────────────────┬────────────────────────────────────────────────────────────────┐
--- │ row11          │ the number where what is handed in is in range, and where not  │
 -- │ drivenNumber   │ the number of each answer of `fresh` and `send`                │
 -- │ receivedNumber │ the number of each answer of `receive`                         │
 -- │ State          │ the state answered, if any, is this one                        │
@@ -10,8 +9,9 @@
 -- │ Receives       │ `receive`                                                      │
 -- └────────────────┴────────────────────────────────────────────────────────────────┘
 use mathlib.Core.Path.{_≡_}
-use mathlib.Core.Bool.{Bool, true, false, _&&_}
+use mathlib.Core.Bool.{_&&_}
 use Prim.Native.Nat.{ℕ}
+use Rattle.paper.specs.Numbers.{outside, unless}
 use Rattle.bus.specs.declared.Bus.{Bus}
 use Rattle.bus.specs.declared.Driven.{Driven}
 use Rattle.bus.specs.declared.Driven.the-variants.{Now, NotDriven}
@@ -19,17 +19,13 @@ use Rattle.bus.specs.declared.Received.{Received}
 use Rattle.bus.specs.declared.Received.the-variants.{Word, NotReceived}
 use Rattle.bus.specs.Rule.{lawful, next, undone}
 
-abbrev pub row11 : Bool → ℕ
-row11 true = 0
-row11 false = 11
-
 abbrev pub drivenNumber : Driven → ℕ
 drivenNumber (Now b) = 0
-drivenNumber NotDriven = 11
+drivenNumber NotDriven = outside
 
 abbrev pub receivedNumber : Received → ℕ
 receivedNumber (Word y) = 0
-receivedNumber NotReceived = 11
+receivedNumber NotReceived = outside
 
 abbrev pub State : Driven → Bus → Type 0
 State (Now b) n = b ≡ n
@@ -40,13 +36,13 @@ Content (Word y) n = y ≡ n
 Content NotReceived n = Unit
 
 pub record Starts (w : ℕ) (r : Driven) : Type 0 where
-  pub number : drivenNumber r ≡ row11 (lawful w 0 0)
+  pub number : drivenNumber r ≡ unless outside (lawful w 0 0)
   pub state : State r (record { width = w; wires = 0; invert = 0 })
 
 pub record Sends (b : Bus) (y : ℕ) (r : Driven) : Type 0 where
-  pub number : drivenNumber r ≡ row11 (lawful (b .width) (b .wires) (b .invert) && lawful (b .width) y 0)
+  pub number : drivenNumber r ≡ unless outside (lawful (b .width) (b .wires) (b .invert) && lawful (b .width) y 0)
   pub state : State r (next b y)
 
 pub record Receives (w x v : ℕ) (r : Received) : Type 0 where
-  pub number : receivedNumber r ≡ row11 (lawful w x v)
+  pub number : receivedNumber r ≡ unless outside (lawful w x v)
   pub content : Content r (undone w x v)

@@ -1,5 +1,8 @@
 -- What is proved of the bus beside its contracts, each once over the width.
 -- ┌──────────────┬──────────────────────────────────────────────────────────────────┐
+-- │ OneStart     │ no second answer meets the contract of `fresh`                   │
+-- │ OneSend      │ that of `send`                                                   │
+-- │ OneReceive   │ that of `receive`                                                │
 -- │ CountIsApart │ ones in the exclusive-or are the wires that differ               │
 -- │ BeginsLawful │ a fresh state is in range                                        │
 -- │ StaysLawful  │ what is sent is in range, so the next call takes it              │
@@ -12,12 +15,22 @@ use Prim.Native.Nat.{ℕ, _/_, _^_, _<_, _≤_}
 use lib.Bits.{bitXor}
 use lib.Count.{ones}
 use Rattle.bus.specs.declared.Bus.{Bus}
+use Rattle.bus.specs.declared.Driven.{Driven}
 use Rattle.bus.specs.declared.Driven.the-variants.{Now}
 use Rattle.bus.specs.declared.Received.{Received}
 use Rattle.bus.specs.declared.Received.the-variants.{Word}
 use Rattle.bus.specs.Wires.{apart}
 use Rattle.bus.specs.Rule.{lawful}
 use Rattle.bus.specs.Calls.{Starts, Sends, Receives}
+
+abbrev pub OneStart : Type 0
+OneStart = (w : ℕ) (r s : Driven) → Starts w r → Starts w s → r ≡ s
+
+abbrev pub OneSend : Type 0
+OneSend = (b : Bus) (y : ℕ) (r s : Driven) → Sends b y r → Sends b y s → r ≡ s
+
+abbrev pub OneReceive : Type 0
+OneReceive = (w x v : ℕ) (r s : Received) → Receives w x v r → Receives w x v s → r ≡ s
 
 abbrev pub CountIsApart : Type 0
 CountIsApart = (w x y : ℕ) → x < 2 ^ w → y < 2 ^ w → ones (bitXor x y) ≡ apart w x y

@@ -1,5 +1,6 @@
 -- Bus-invert, as the paper says it.
 -- ┌──────────────┬──────────────────────────────────────────────────────────────────┐
+-- │ widest       │ the data wires of a bus at most                                  │
 -- │ lawful w x v │ width 1 to 31, no wire set above it, invert wire 0 or 1          │
 -- │ crowded      │ the wires that differ are more than half the width               │
 -- │ sent         │ the data inverted with the invert wire set, or as it is          │
@@ -13,8 +14,11 @@ use lib.Dec.{leb, ltb}
 use Rattle.bus.specs.declared.Bus.{Bus}
 use Rattle.bus.specs.Wires.{apart, inverted}
 
+abbrev pub widest : ℕ
+widest = 31
+
 abbrev pub lawful : ℕ → ℕ → ℕ → Bool
-lawful w x v = leb 1 w && (leb w 31 && (ltb x (2 ^ w) && leb v 1))
+lawful w x v = leb 1 w && (leb w widest && (ltb x (2 ^ w) && leb v 1))
 
 abbrev pub crowded : ℕ → ℕ → ℕ → Bool
 crowded w x y = ltb w (2 * apart w x y)

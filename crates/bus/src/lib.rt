@@ -2,8 +2,11 @@
 ghost use mathlib.Core.Path.{_≡_};
 ghost use Prim.Native.Nat.{_≤_, _<_, _^_};
 ghost use Rattle.bus.specs.Wires.{inverted};
-ghost use Rattle.bus.specs.Rule.{crowded, lawful};
+ghost use Rattle.bus.specs.Rule.{widest, crowded, lawful};
 ghost use Rattle.bus.specs.Calls.{drivenNumber, receivedNumber, Starts, Sends, Receives};
+
+// The data wires of a bus at most.
+const WIDEST: u32 = 31;
 
 // What the sender drives: `width` data wires, the lowest wire the lowest bit, and the invert wire.
 pub struct Bus {
@@ -31,7 +34,7 @@ impl Driven {
     {
         match self {
             Driven::Now(_) => 0,
-            Driven::NotDriven => 11,
+            Driven::NotDriven => paper::OUTSIDE,
         }
     }
 }
@@ -43,7 +46,7 @@ impl Received {
     {
         match self {
             Received::Word(_) => 0,
-            Received::NotReceived => 11,
+            Received::NotReceived => paper::OUTSIDE,
         }
     }
 }
@@ -55,7 +58,7 @@ fn in_range(width: u32, wires: u32, invert: u8) -> bool
     if width < 1 {
         return false;
     }
-    if 31 < width {
+    if WIDEST < width {
         return false;
     }
     if 1u32 << width <= wires {
@@ -66,7 +69,7 @@ fn in_range(width: u32, wires: u32, invert: u8) -> bool
 
 // The rule by which the sender inverts.
 fn over_half(width: u32, present: u32, data: u32) -> bool
-    requires { ⌜ (width ≤ 31) × ((present < 2 ^ width) × («data» < 2 ^ width)) ⌝ }
+    requires { ⌜ (width ≤ widest) × ((present < 2 ^ width) × («data» < 2 ^ width)) ⌝ }
     ensures { λ r. ⌜ r ≡ crowded width present «data» ⌝ }
 {
     let differing = u32::count_ones(present ^ data);
@@ -74,7 +77,7 @@ fn over_half(width: u32, present: u32, data: u32) -> bool
 }
 
 fn turned(width: u32, wires: u32) -> u32
-    requires { ⌜ (width ≤ 31) × (wires < 2 ^ width) ⌝ }
+    requires { ⌜ (width ≤ widest) × (wires < 2 ^ width) ⌝ }
     ensures { λ r. ⌜ r ≡ inverted width wires ⌝ }
 {
     (1u32 << width) - 1 - wires

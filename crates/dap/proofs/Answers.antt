@@ -28,7 +28,8 @@ use Rattle.dap.specs.declared.Damage.the-variants.{
   TooManyBits,
 }
 use Rattle.dap.specs.Copies.{sized, parityOf, diffs}
-use Rattle.dap.specs.Calls.{madeNumber, Value, copied, Makes, numberOf, named, verdictNumber, Judges, Part, Hands}
+use Rattle.dap.specs.Calls.{madeNumber, Value, copied, numberOf, named, verdictNumber, Judges, Part, Hands}
+use Rattle.dap.specs.Claims.{OneMake, SomeVerdict, OneVerdict, Same, OnePart}
 
 pub record Accepted (a b : List ℕ) (p : ℕ) : Type 0 where
   pub some : 1 ≤ length a
@@ -58,8 +59,7 @@ one-made (Parity a) NotMade n e p q = absurd (eqb-false 0 12 refl e)
 one-made NotMade (Parity b) n e p q = absurd (eqb-false 12 0 refl e)
 one-made NotMade NotMade n e p q = refl
 
-pub one-make : (d o₁ o₂ : List ℕ) (r s : Made) (x₁ x₂ y₁ y₂ : List ℕ) → Makes d o₁ o₂ r x₁ x₂ → Makes d o₁ o₂ s y₁ y₂
-    → (r ≡ s) × (x₁ ≡ y₁) × (x₂ ≡ y₂)
+pub one-make : OneMake
 one-make d o₁ o₂ r s x₁ x₂ y₁ y₂ p q =
     let e : r ≡ s = one-made r s _ (p .number ∙ sym (q .number)) (p .parity) (q .parity) in (
       e,
@@ -92,10 +92,10 @@ back TooManyBits = refl
 pub same-number : (v w : Damage) → numberOf v ≡ numberOf w → v ≡ w
 same-number v w e = sym (back v) ∙ ap ofNumber e ∙ back w
 
-pub one-verdict : (a b : List ℕ) (p : ℕ) (v w : Damage) → Judges a b p v → Judges a b p w → v ≡ w
+pub one-verdict : OneVerdict
 one-verdict a b p v w x y = same-number v w (x ∙ sym y)
 
-pub some-verdict : (a b : List ℕ) (p : ℕ) → (v : Damage) × Judges a b p v
+pub some-verdict : SomeVerdict
 some-verdict a b p =
     refused (not (sized a && eqb (length a) (length b))) 12 (WrongLength, refl)
     (refused (ltb 1 p) 11 (NoParity, refl)
@@ -114,10 +114,6 @@ some-verdict a b p =
     found (suc n) true = (SecondCopy, refl)
     found (suc n) false = (FirstCopy, refl)
 
--- the same part of memory, with the same bytes
-abbrev pub Same : RefT (List ℕ) → RefT (List ℕ) → Type 0
-Same r s = (now r ≡ now s) × (ptr r ≡ ptr s)
-
 same-part : (v : Damage) (a b r s : RefT (List ℕ)) → Part v a b r → Part v a b s → Same r s
 same-part Nothing a b r s e f = (ap now (e ∙ sym f), ap ptr (e ∙ sym f))
 same-part FirstCopy a b r s e f = (ap now (e ∙ sym f), ap ptr (e ∙ sym f))
@@ -127,7 +123,7 @@ same-part WrongLength a b r s e f = (e .0 ∙ sym (f .0), e .1 ∙ sym (f .1))
 same-part NoParity a b r s e f = (e .0 ∙ sym (f .0), e .1 ∙ sym (f .1))
 same-part TooManyBits a b r s e f = (e .0 ∙ sym (f .0), e .1 ∙ sym (f .1))
 
-pub one-part : (a b : RefT (List ℕ)) (p : ℕ) (r s : RefT (List ℕ)) → Hands a b p r → Hands a b p s → Same r s
+pub one-part : OnePart
 one-part a b p r s x y =
     same-part (y .damage) a b r s
     (subst (λ (v : Damage). Part v a b r) (one-verdict (now a) (now b) p (x .damage) (y .damage) (x .judged) (y .judged)) (x .part)) (y .part)

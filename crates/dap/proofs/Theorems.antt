@@ -16,12 +16,12 @@ use lib.ListN.{length, take, length-set}
 use lib.Seq.{take-at}
 use denote.Ref.{RefT, now}
 use Rattle.laws.proofs.Truth.{and-l, and-r}
-use Rattle.dap.specs.declared.Made.the-variants.{Parity}
 use Rattle.dap.specs.declared.Damage.{Damage}
 use Rattle.dap.specs.declared.Damage.the-variants.{Nothing, FirstCopy, SecondCopy, ParityNumber}
 use Rattle.dap.specs.Copies.{sized, parityOf, diffs, flipAt}
-use Rattle.dap.specs.Calls.{row12, Makes, numberOf, named, verdictNumber, Part, Hands}
-use Rattle.dap.specs.Claims.{Copies, whole, first, second, parity, Names, HandsBack, Agrees}
+use Rattle.paper.specs.Numbers.{unfit, unless}
+use Rattle.dap.specs.Calls.{numberOf, named, verdictNumber, Part, Hands}
+use Rattle.dap.specs.Claims.{MadeCopies, whole, first, second, parity, Names, HandsBack, Agrees}
 use Rattle.dap.proofs.Parities.{diffs-self, diffs-sym, diffs-flip, unlike}
 use Rattle.dap.proofs.Answers.{few, same-number}
 
@@ -34,7 +34,7 @@ judged d a b p n t s la lb h e m u =
     let top = leb→le (length d) 64 (and-r (leb 1 (length d)) _ k) in
     few a b p (record { some = omega arith; most = omega arith; same = omega arith; bit = h }) (omega arith) ∙ ap₂ named e u
 
-pub made-copies : (d o₁ o₂ x₁ x₂ : List ℕ) (p : ℕ) → Makes d o₁ o₂ (Parity p) x₁ x₂ → Copies d x₁ x₂ p
+pub made-copies : MadeCopies
 made-copies d o₁ o₂ x₁ x₂ p m =
     let room = leb (length d) (length o₁) && leb (length d) (length o₂) in
     record {
@@ -44,7 +44,7 @@ made-copies d o₁ o₂ x₁ x₂ p m =
       parity = m .parity;
     }
   where
-    accepted : (t : Bool) → 0 ≡ row12 t → T t
+    accepted : (t : Bool) → 0 ≡ (unless unfit) t → T t
     accepted true e = tt
     accepted false e = eqb-false 0 12 refl e
 

@@ -1,6 +1,5 @@
 -- What each call promises: its number and, where it answers, what it answers and leaves.
 -- ┌───────────────┬─────────────────────────────────────────────────────────────────┐
--- │ row12         │ the number where lengths are right, and where not               │
 -- │ madeNumber    │ the number of each answer of `make`                             │
 -- │ Value         │ the parity answered, if any, is this one                        │
 -- │ copied        │ an output at exit: the data at its start, or as at entry        │
@@ -21,6 +20,7 @@ use Prim.Native.Nat.{ℕ, zero, suc}
 use lib.Dec.{leb, ltb, eqb}
 use lib.ListN.{length, drop}
 use denote.Ref.{RefT, now, ptr}
+use Rattle.paper.specs.Numbers.{outside, unfit, tooManyBits, unless}
 use Rattle.dap.specs.declared.Made.{Made}
 use Rattle.dap.specs.declared.Made.the-variants.{Parity, NotMade}
 use Rattle.dap.specs.declared.Damage.{Damage}
@@ -35,13 +35,9 @@ use Rattle.dap.specs.declared.Damage.the-variants.{
 }
 use Rattle.dap.specs.Copies.{sized, parityOf, diffs}
 
-abbrev pub row12 : Bool → ℕ
-row12 true = 0
-row12 false = 12
-
 abbrev pub madeNumber : Made → ℕ
 madeNumber (Parity p) = 0
-madeNumber NotMade = 12
+madeNumber NotMade = unfit
 
 abbrev pub Value : Made → ℕ → Type 0
 Value (Parity p) n = p ≡ n
@@ -52,7 +48,7 @@ copied (Parity p) d out = d ++ drop (length d) out
 copied NotMade d out = out
 
 pub record Makes (d out₁ out₂ : List ℕ) (r : Made) (after₁ after₂ : List ℕ) : Type 0 where
-  pub number : madeNumber r ≡ row12 (sized d && (leb (length d) (length out₁) && leb (length d) (length out₂)))
+  pub number : madeNumber r ≡ unless unfit (sized d && (leb (length d) (length out₁) && leb (length d) (length out₂)))
   pub parity : Value r (parityOf d)
   pub first : after₁ ≡ copied r d out₁
   pub second : after₂ ≡ copied r d out₂
@@ -62,9 +58,9 @@ numberOf Nothing = 0
 numberOf FirstCopy = 1
 numberOf SecondCopy = 2
 numberOf ParityNumber = 3
-numberOf WrongLength = 12
-numberOf NoParity = 11
-numberOf TooManyBits = 17
+numberOf WrongLength = unfit
+numberOf NoParity = outside
+numberOf TooManyBits = tooManyBits
 
 abbrev pub named : ℕ → Bool → ℕ
 named zero true = 0
@@ -74,9 +70,9 @@ named (suc n) false = 1
 
 abbrev pub verdictNumber : List ℕ → List ℕ → ℕ → ℕ
 verdictNumber a b p =
-    cond (not (sized a && eqb (length a) (length b))) 12
-    (cond (ltb 1 p) 11
-    (cond (ltb 1 (diffs a b)) 17
+    cond (not (sized a && eqb (length a) (length b))) unfit
+    (cond (ltb 1 p) outside
+    (cond (ltb 1 (diffs a b)) tooManyBits
     (named (diffs a b) (eqb (parityOf a) p))))
 
 abbrev pub Judges : List ℕ → List ℕ → ℕ → Damage → Type 0

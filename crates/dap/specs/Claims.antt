@@ -1,7 +1,13 @@
 -- What is proved of the calls beside their contracts.
 -- ┌──────────────┬──────────────────────────────────────────────────────────────────┐
+-- │ OneMake      │ no second answer or outputs meet the contract of `make`          │
+-- │ SomeVerdict  │ any copies and parity have a verdict                             │
+-- │ OneVerdict   │ and only one                                                     │
+-- │ Same r s     │ the same part of memory, with the same bytes                     │
+-- │ OnePart      │ no second part meets the contract of `good`                      │
 -- │ Copies       │ what `make` leaves: the data at the start of both outputs, its   │
 -- │              │ parity, and a size that the reader takes                         │
+-- │ MadeCopies   │ what `make` answers is so                                        │
 -- │ Came d a b p │ what came of data d: nothing damaged, or one bit of a copy, or   │
 -- │              │ the parity                                                       │
 -- │ harmed       │ the number of what was damaged                                   │
@@ -15,15 +21,38 @@ use mathlib.Core.Bool.{true}
 use mathlib.Core.List.{List}
 use Prim.Native.Nat.{ℕ, _-_, _<_}
 use lib.ListN.{length, take}
-use denote.Ref.{RefT, now}
+use denote.Ref.{RefT, now, ptr}
 use Rattle.dap.specs.Copies.{sized, parityOf, flipAt}
-use Rattle.dap.specs.Calls.{verdictNumber, Hands}
+use Rattle.dap.specs.declared.Made.{Made}
+use Rattle.dap.specs.declared.Made.the-variants.{Parity}
+use Rattle.dap.specs.declared.Damage.{Damage}
+use Rattle.dap.specs.Calls.{Makes, verdictNumber, Judges, Hands}
+
+abbrev pub OneMake : Type 0
+OneMake =
+    (d o₁ o₂ : List ℕ) (r s : Made) (x₁ x₂ y₁ y₂ : List ℕ) → Makes d o₁ o₂ r x₁ x₂ → Makes d o₁ o₂ s y₁ y₂
+    → (r ≡ s) × (x₁ ≡ y₁) × (x₂ ≡ y₂)
+
+abbrev pub SomeVerdict : Type 0
+SomeVerdict = (a b : List ℕ) (p : ℕ) → (v : Damage) × Judges a b p v
+
+abbrev pub OneVerdict : Type 0
+OneVerdict = (a b : List ℕ) (p : ℕ) (v w : Damage) → Judges a b p v → Judges a b p w → v ≡ w
+
+abbrev pub Same : RefT (List ℕ) → RefT (List ℕ) → Type 0
+Same r s = (now r ≡ now s) × (ptr r ≡ ptr s)
+
+abbrev pub OnePart : Type 0
+OnePart = (a b : RefT (List ℕ)) (p : ℕ) (r s : RefT (List ℕ)) → Hands a b p r → Hands a b p s → Same r s
 
 pub record Copies (d x₁ x₂ : List ℕ) (p : ℕ) : Type 0 where
   pub size : sized d ≡ true
   pub first : take (length d) x₁ ≡ d
   pub second : take (length d) x₂ ≡ d
   pub parity : p ≡ parityOf d
+
+abbrev pub MadeCopies : Type 0
+MadeCopies = (d o₁ o₂ x₁ x₂ : List ℕ) (p : ℕ) → Makes d o₁ o₂ (Parity p) x₁ x₂ → Copies d x₁ x₂ p
 
 pub data Came (d a b : List ℕ) (p : ℕ) : Type 0 where
   whole : a ≡ d → b ≡ d → p ≡ parityOf d → Came d a b p

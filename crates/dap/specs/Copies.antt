@@ -1,5 +1,6 @@
 -- Copies: lists of bytes. `ones` is the library's count of the ones of a number, `bitXor` its exclusive-or.
 -- ┌────────────┬────────────────────────────────────────────────────────────────────┐
+-- │ mostCopied │ the bytes of a copy at most                                        │
 -- │ sized l    │ 1 to 64 bytes                                                      │
 -- │ weight l   │ the sum of all bits                                                │
 -- │ parityOf l │ that sum mod 2                                                     │
@@ -14,8 +15,11 @@ use lib.Count.{ones}
 use lib.Dec.{leb}
 use lib.ListN.{length, getD, set}
 
+abbrev pub mostCopied : ℕ
+mostCopied = 64
+
 abbrev pub sized : List ℕ → Bool
-sized l = leb 1 (length l) && leb (length l) 64
+sized l = leb 1 (length l) && leb (length l) mostCopied
 
 unfoldable pub weight : List ℕ → ℕ
 weight [] = 0

@@ -4,8 +4,11 @@ ghost use mathlib.Core.List.{[], _++_};
 ghost use Prim.Native.Nat.{_≤_};
 ghost use lib.ListN.{length, drop};
 ghost use denote.Ref.{ptr};
-ghost use Rattle.dap.specs.Copies.{weight, diffs};
+ghost use Rattle.dap.specs.Copies.{mostCopied, weight, diffs};
 ghost use Rattle.dap.specs.Calls.{madeNumber, numberOf, Makes, Judges, Hands};
+
+// The bytes of a copy at most.
+const MOST_COPIED: usize = 64;
 
 // The parity of what was copied, or row 12.
 pub enum Made {
@@ -31,7 +34,7 @@ impl Made {
     {
         match self {
             Made::Parity(_) => 0,
-            Made::NotMade => 12,
+            Made::NotMade => paper::UNFIT,
         }
     }
 }
@@ -46,16 +49,16 @@ impl Damage {
             Damage::FirstCopy => 1,
             Damage::SecondCopy => 2,
             Damage::ParityNumber => 3,
-            Damage::WrongLength => 12,
-            Damage::NoParity => 11,
-            Damage::TooManyBits => 17,
+            Damage::WrongLength => paper::UNFIT,
+            Damage::NoParity => paper::OUTSIDE,
+            Damage::TooManyBits => paper::TOO_MANY_BITS,
         }
     }
 }
 
 // The ones of a copy.
 fn weigh(a: &[u8]) -> u32
-    requires { ⌜ length (now a) ≤ 64 ⌝ }
+    requires { ⌜ length (now a) ≤ mostCopied ⌝ }
     ensures { λ r. ⌜ r ≡ weight (now (a .entry)) ⌝ }
 {
     let mut n = 0u32;
@@ -69,7 +72,7 @@ fn weigh(a: &[u8]) -> u32
 
 // At how many bits two copies differ.
 fn differing(a: &[u8], b: &[u8]) -> u32
-    requires { ⌜ (length (now a) ≤ 64) × (length (now a) ≡ length (now b)) ⌝ }
+    requires { ⌜ (length (now a) ≤ mostCopied) × (length (now a) ≡ length (now b)) ⌝ }
     ensures { λ r. ⌜ r ≡ diffs (now (a .entry)) (now (b .entry)) ⌝ }
 {
     let mut n = 0u32;
@@ -100,7 +103,7 @@ pub fn make(data: &[u8], first: &mut [u8], second: &mut [u8]) -> Made
     if data.len() < 1 {
         return Made::NotMade;
     }
-    if 64 < data.len() {
+    if MOST_COPIED < data.len() {
         return Made::NotMade;
     }
     if first.len() < data.len() {
@@ -121,7 +124,7 @@ pub fn verdict(a: &[u8], b: &[u8], parity: u8) -> Damage
     if a.len() < 1 {
         return Damage::WrongLength;
     }
-    if 64 < a.len() {
+    if MOST_COPIED < a.len() {
         return Damage::WrongLength;
     }
     if a.len() != b.len() {

@@ -11,10 +11,10 @@ use lib.ListN.{length, getD}
 use lib.Pow.{shr-shr}
 use Rattle.laws.proofs.Computed.{below}
 use Rattle.poly.specs.Poly.{rem}
-use Rattle.poly.proofs.Division.{rem→divisible}
+use Rattle.poly.proofs.Division.{is-divisible}
 use Rattle.frame.specs.Word.{wordOf, dataOf, FrameOf}
 use Rattle.frame.specs.Line.{lineBit, AllLawful, Run, longestRun}
-use Rattle.frame.specs.Demands.{RunBound, RunReached}
+use Rattle.frame.specs.Claims.{RunBound, RunReached}
 
 -- positions i and i + 1 of a frame are not equal
 Apart : ℕ → ℕ → Type 0
@@ -131,7 +131,7 @@ run-reached = (example, lawful, 16, (lit≤ tt, λ j h. eqb→eq (lineBit exampl
     lawful zero h = (
       0x0000FFFF0000,
       record {
-        lawful = record { code = rem→divisible 51 0x00007FFFC0001FCB (lit< tt) refl; runs = record { at-16 = refl; at-33 = refl; at-50 = refl } };
+        lawful = record { code = is-divisible 51 0x00007FFFC0001FCB (lit< tt) refl; runs = record { at-16 = refl; at-33 = refl; at-50 = refl } };
         carries = refl;
         pad = refl;
       },

@@ -1,9 +1,4 @@
 pub mod Word
-pub mod Answers
-pub mod Reads
-pub mod Makes
-pub mod Lists
-pub mod Bytes
 pub mod Line
-pub mod Demands
 pub mod Parts
+pub mod Claims

@@ -1,5 +1,6 @@
 -- The layout of a frame: a word of 63 positions and its pad, f = word * 2 + pad. Position 0 is the highest bit.
 -- ┌─────────────┬──────────────────────────────────────────────────────────────────┐
+-- │ dataEnd     │ 2^48: a data word is a number below it                           │
 -- │ wordOf f    │ the first 63 positions of the frame f                            │
 -- │ padOf f     │ its position 63                                                  │
 -- │ opposite x  │ the opposite of the bit x                                        │
@@ -14,6 +15,9 @@
 use mathlib.Core.Path.{_≡_}
 use Prim.Native.Nat.{ℕ, _+_, _-_, _*_, _/_, _%_, _^_}
 use Rattle.bch.specs.Code.{CodeWord, bit}
+
+abbrev pub dataEnd : ℕ
+dataEnd = 2 ^ 48
 
 abbrev pub wordOf : ℕ → ℕ
 wordOf f = f / 2

@@ -21,8 +21,8 @@ use Rattle.hier.specs.declared.Coded.the-variants.{Block, NotMade}
 use Rattle.hier.specs.declared.Reading.{Reading}
 use Rattle.hier.specs.declared.Reading.the-variants.{Word, NoBlock, Eighth}
 use Rattle.hier.specs.Blocks.{Lawful, blockOf, codeOf, flips, Near}
-use Rattle.hier.specs.Calls.{Value, Makes, codedNumber, Read, Reads}
-use Rattle.hier.specs.Claims.{NeverASecond}
+use Rattle.hier.specs.Calls.{Value, codedNumber, Read, Reads}
+use Rattle.hier.specs.Claims.{OneMake, SomeRead, OneRead, NeverASecond}
 use Rattle.hier.proofs.Choice.{choice, near₀, near₁, near₂, near₃, total, sides, choice-lt, determined, found}
 
 pub never-a-second : NeverASecond
@@ -124,7 +124,10 @@ same-word {b} {d} {n} {e} {m} p q =
     let f : d ≡ e = same-data d e (k .0) (k .1) (k .2) in
     ap₂ Word f (p .count ∙ ap (λ (z : ℕ). flips b (codeOf z)) f ∙ sym (q .count))
 
-pub one-read : (b : ℕ) (r s : Reading) → Reads b r → Reads b s → r ≡ s
+pub some-read : SomeRead
+some-read b = (answerOf b, reads-at b)
+
+pub one-read : OneRead
 one-read b (Word d n) (Word e m) x y = same-word (told x) (told y)
 one-read b (Word d n) NoBlock x y = absurd (word-or-none (told x) y)
 one-read b (Word d n) Eighth x y = absurd (word-or-eighth (told x) y)
@@ -135,7 +138,7 @@ one-read b Eighth (Word e m) x y = absurd (word-or-eighth (told y) x)
 one-read b Eighth NoBlock x y = absurd (none-or-eighth y x)
 one-read b Eighth Eighth x y = refl
 
-pub one-make : (d : ℕ) (r s : Coded) → Makes d r → Makes d s → r ≡ s
+pub one-make : OneMake
 one-make d r s p q = same r s (p .number ∙ sym (q .number)) (p .block) (q .block)
   where
     same : (r s : Coded) → codedNumber r ≡ codedNumber s → Value r (codeOf d) → Value s (codeOf d) → r ≡ s

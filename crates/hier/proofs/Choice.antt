@@ -15,7 +15,8 @@ use native.Mathlib.Nat.{mod-lt}
 use native.Mathlib.Omega.{arith}
 use lib.Dec.{T, leb, le→leb, lit<}
 use Rattle.laws.proofs.Xor.{bit-lt}
-use Rattle.hier.specs.Symbols.{member, bit, gap}
+use Rattle.laws.specs.Bits.{bit}
+use Rattle.hier.specs.Symbols.{member, gap}
 use Rattle.hier.specs.Blocks.{symbol, Lawful, blockOf, flips, Near}
 use Rattle.hier.specs.Inside.{nearOf, kindOf, solved}
 use Rattle.hier.proofs.Laws.{all-five, each-of-four, ap₄}

@@ -12,8 +12,9 @@ use native.Mathlib.Nat.{mod-lt}
 use native.Mathlib.Omega.{arith}
 use lib.Dec.{eqb, eqb→eq, lit<}
 use Rattle.laws.proofs.Computed.{below}
-use Rattle.hier.specs.Symbols.{member, bit}
-use Rattle.hier.specs.Blocks.{symbol, blockOf}
+use Rattle.laws.specs.Bits.{bit}
+use Rattle.hier.specs.Symbols.{member}
+use Rattle.hier.specs.Blocks.{symbol, blockOf, subset}
 
 pub symbol-lt : (b i : ℕ) → symbol b i < 16
 symbol-lt b i = mod-lt _ (lit< tt)
@@ -40,21 +41,21 @@ module _ (a b c d : ℕ) (ha : a < 16) (hb : b < 16) (hc : c < 16) (hd : d < 16)
   digit₃ = omega arith
 
 module _ (u w c : ℕ) where
-  pub part₀ : symbol (blockOf u w c) 0 ≡ member u (bit c 3)
+  pub part₀ : symbol (blockOf u w c) 0 ≡ member (subset u w 0) (bit c 3)
   unfolding blockOf
-  part₀ = digit₀ _ _ _ _ (member-lt u _) (member-lt w _) (member-lt ((u + w) % 3) _) (member-lt ((u + 2 * w) % 3) _)
+  part₀ = digit₀ _ _ _ _ (member-lt (subset u w 0) _) (member-lt (subset u w 1) _) (member-lt (subset u w 2) _) (member-lt (subset u w 3) _)
 
-  pub part₁ : symbol (blockOf u w c) 1 ≡ member w (bit c 2)
+  pub part₁ : symbol (blockOf u w c) 1 ≡ member (subset u w 1) (bit c 2)
   unfolding blockOf
-  part₁ = digit₁ _ _ _ _ (member-lt u _) (member-lt w _) (member-lt ((u + w) % 3) _) (member-lt ((u + 2 * w) % 3) _)
+  part₁ = digit₁ _ _ _ _ (member-lt (subset u w 0) _) (member-lt (subset u w 1) _) (member-lt (subset u w 2) _) (member-lt (subset u w 3) _)
 
-  pub part₂ : symbol (blockOf u w c) 2 ≡ member ((u + w) % 3) (bit c 1)
+  pub part₂ : symbol (blockOf u w c) 2 ≡ member (subset u w 2) (bit c 1)
   unfolding blockOf
-  part₂ = digit₂ _ _ _ _ (member-lt u _) (member-lt w _) (member-lt ((u + w) % 3) _) (member-lt ((u + 2 * w) % 3) _)
+  part₂ = digit₂ _ _ _ _ (member-lt (subset u w 0) _) (member-lt (subset u w 1) _) (member-lt (subset u w 2) _) (member-lt (subset u w 3) _)
 
-  pub part₃ : symbol (blockOf u w c) 3 ≡ member ((u + 2 * w) % 3) (bit c 0)
+  pub part₃ : symbol (blockOf u w c) 3 ≡ member (subset u w 3) (bit c 0)
   unfolding blockOf
-  part₃ = digit₃ _ _ _ _ (member-lt u _) (member-lt w _) (member-lt ((u + w) % 3) _) (member-lt ((u + 2 * w) % 3) _)
+  part₃ = digit₃ _ _ _ _ (member-lt (subset u w 0) _) (member-lt (subset u w 1) _) (member-lt (subset u w 2) _) (member-lt (subset u w 3) _)
 
 pub bits : (c : ℕ) → c < 16 → bit c 3 * 8 + bit c 2 * 4 + bit c 1 * 2 + bit c 0 ≡ c
 bits c h = eqb→eq _ c (below (λ c. eqb (bit c 3 * 8 + bit c 2 * 4 + bit c 1 * 2 + bit c 0) c) 16 tt c h)

@@ -9,13 +9,14 @@ use Prim.Native.Nat.{ℕ, _+_}
 use native.Mathlib.Omega.{arith}
 use borrow.Author.Tests.{eq-eqb, eqb-false, ltb-true}
 use Rattle.hier.specs.declared.Reading.the-variants.{Word}
-use Rattle.hier.specs.Symbols.{bit, unlike, gap}
+use Rattle.laws.specs.Bits.{bit, unlike}
+use Rattle.hier.specs.Symbols.{gap}
 use Rattle.hier.specs.Blocks.{symbol, flips, Near}
-use Rattle.hier.specs.Calls.{row11}
+use Rattle.paper.specs.Numbers.{outside, unless}
 use Rattle.hier.specs.Claims.{Mends, RoundTrip}
 use Rattle.hier.proofs.Answers.{reads-word, one-read}
 
-accepted : (t : Bool) → 0 ≡ row11 t → t ≡ true
+accepted : (t : Bool) → 0 ≡ (unless outside) t → t ≡ true
 accepted true e = refl
 accepted false e = absurd (eqb-false 0 11 refl e)
 

@@ -2,15 +2,17 @@
 -- ┌───────────────┬─────────────────────────────────────────────────────────────────┐
 -- │ symbol b i    │ symbol i of a block, i being 0 to 3                             │
 -- │ Lawful u w c  │ u and w each 0 to 2, any four bits c                            │
--- │ blockOf u w c │ the lawful block: subsets u, w, u+w, u+2w mod 3; the bits of    │
--- │               │ c, highest first, are the c of its symbols                      │
+-- │ subset u w i  │ the subset of symbol i: u, w, u+w, u+2w, all mod 3              │
+-- │ blockOf u w c │ the lawful block of these subsets; the bits of c, highest first │
+-- │               │ are the c of its symbols                                        │
 -- │ codeOf d      │ the block of data d: v its upper three bits, u = v/3,           │
 -- │               │ w = v mod 3, and c its lower four                               │
 -- │ flips b l     │ by how many bits two blocks differ                              │
 -- │ Near b l      │ they differ in at most two symbols, by one bit in each          │
 -- └───────────────┴─────────────────────────────────────────────────────────────────┘
-use Prim.Native.Nat.{ℕ, _+_, _-_, _*_, _/_, _%_, _^_, _<_, _≤_}
-use Rattle.hier.specs.Symbols.{member, bit, gap}
+use Prim.Native.Nat.{ℕ, zero, suc, _+_, _-_, _*_, _/_, _%_, _^_, _<_, _≤_}
+use Rattle.laws.specs.Bits.{bit}
+use Rattle.hier.specs.Symbols.{member, gap}
 
 abbrev pub symbol : ℕ → ℕ → ℕ
 symbol b i = b / 16 ^ (3 - i) % 16
@@ -20,12 +22,18 @@ pub record Lawful (u w c : ℕ) : Type 0 where
   pub w-lt : w < 3
   pub c-lt : c < 16
 
+abbrev pub subset : ℕ → ℕ → ℕ → ℕ
+subset u w zero = u
+subset u w (suc zero) = w
+subset u w (suc (suc zero)) = (u + w) % 3
+subset u w (suc (suc (suc i))) = (u + 2 * w) % 3
+
 unfoldable pub blockOf : ℕ → ℕ → ℕ → ℕ
 blockOf u w c =
-    member u (bit c 3) * 16 ^ 3
-    + member w (bit c 2) * 16 ^ 2
-    + member ((u + w) % 3) (bit c 1) * 16
-    + member ((u + 2 * w) % 3) (bit c 0)
+    member (subset u w 0) (bit c 3) * 16 ^ 3
+    + member (subset u w 1) (bit c 2) * 16 ^ 2
+    + member (subset u w 2) (bit c 1) * 16
+    + member (subset u w 3) (bit c 0)
 
 abbrev pub codeOf : ℕ → ℕ
 codeOf d = blockOf (d / 16 / 3) (d / 16 % 3) (d % 16)

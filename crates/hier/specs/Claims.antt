@@ -1,5 +1,8 @@
 -- What is proved of the code and of its calls beside their contracts.
 -- ┌──────────────┬──────────────────────────────────────────────────────────────────┐
+-- │ OneMake      │ no second answer meets the contract of `make`                    │
+-- │ SomeRead     │ each block has an answer that meets the contract of `read`       │
+-- │ OneRead      │ and only one                                                     │
 -- │ NeverASecond │ no two lawful blocks are near one block                          │
 -- │ Mends        │ made and then damaged in at most two symbols by one bit each:    │
 -- │              │ the data and the number of bits are read                         │
@@ -7,11 +10,21 @@
 -- └──────────────┴──────────────────────────────────────────────────────────────────┘
 use mathlib.Core.Path.{_≡_}
 use Prim.Native.Nat.{ℕ}
+use Rattle.hier.specs.declared.Coded.{Coded}
 use Rattle.hier.specs.declared.Coded.the-variants.{Block}
 use Rattle.hier.specs.declared.Reading.{Reading}
 use Rattle.hier.specs.declared.Reading.the-variants.{Word}
 use Rattle.hier.specs.Blocks.{Lawful, blockOf, flips, Near}
 use Rattle.hier.specs.Calls.{Makes, Reads}
+
+abbrev pub OneMake : Type 0
+OneMake = (d : ℕ) (r s : Coded) → Makes d r → Makes d s → r ≡ s
+
+abbrev pub SomeRead : Type 0
+SomeRead = (b : ℕ) → (r : Reading) × Reads b r
+
+abbrev pub OneRead : Type 0
+OneRead = (b : ℕ) (r s : Reading) → Reads b r → Reads b s → r ≡ s
 
 abbrev pub NeverASecond : Type 0
 NeverASecond = (b u w c u′ w′ c′ : ℕ) → Lawful u w c → Lawful u′ w′ c′ → Near b (blockOf u w c) → Near b (blockOf u′ w′ c′)

@@ -1,13 +1,10 @@
 -- Symbols: four bits, as a number below 16.
 -- ┌────────────┬────────────────────────────────────────────────────────────────────┐
 -- │ member s c │ the symbol of subset s for c: the first of the pair for 0          │
--- │ bit x i    │ bit i of a number, the lowest being bit 0                          │
--- │ unlike a b │ 1 where two bits differ, 0 where they are the same                 │
 -- │ gap x y    │ by how many bits two symbols differ                                │
 -- └────────────┴────────────────────────────────────────────────────────────────────┘
-use mathlib.Core.Bool.{cond}
-use Prim.Native.Nat.{ℕ, zero, suc, _+_, _/_, _%_, _^_}
-use lib.Dec.{eqb}
+use Prim.Native.Nat.{ℕ, zero, suc, _+_}
+use Rattle.laws.specs.Bits.{bit, unlike}
 
 abbrev pub member : ℕ → ℕ → ℕ
 member zero zero = 0b0011
@@ -16,12 +13,6 @@ member (suc zero) zero = 0b0101
 member (suc zero) (suc c) = 0b1010
 member (suc (suc s)) zero = 0b0110
 member (suc (suc s)) (suc c) = 0b1001
-
-abbrev pub bit : ℕ → ℕ → ℕ
-bit x i = x / 2 ^ i % 2
-
-abbrev pub unlike : ℕ → ℕ → ℕ
-unlike a b = cond (eqb a b) 0 1
 
 unfoldable pub gap : ℕ → ℕ → ℕ
 gap x y =

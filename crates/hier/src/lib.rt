@@ -25,7 +25,7 @@ impl Coded {
     {
         match self {
             Coded::Block(_) => 0,
-            Coded::NotMade => 11,
+            Coded::NotMade => paper::OUTSIDE,
         }
     }
 }
@@ -37,11 +37,14 @@ impl Reading {
     {
         match self {
             Reading::Word(_, _) => 0,
-            Reading::NoBlock => 15,
-            Reading::Eighth => 16,
+            Reading::NoBlock => paper::NO_BLOCK,
+            Reading::Eighth => paper::EIGHTH,
         }
     }
 }
+
+// Data is a number below it.
+const DATA_END: u8 = 128;
 
 // The pairs of subsets 0, 1 and 2.
 const MEMBERS: [u16; 6] = [0b0011, 0b1100, 0b0101, 0b1010, 0b0110, 0b1001];
@@ -129,7 +132,7 @@ fn solve(k0: u16, k1: u16, k2: u16, k3: u16) -> u16
 pub fn make(data: u8) -> Coded
     ensures { λ r. ⌜ Makes «data» r ⌝ }
 {
-    if 128 <= data {
+    if DATA_END <= data {
         return Coded::NotMade;
     }
     let d = data as u16;

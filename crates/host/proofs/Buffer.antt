@@ -6,20 +6,20 @@
 use mathlib.Core.Path.{_≡_, refl, sym, ap, _∙_, subst}
 use mathlib.Core.Bool.{Bool, cond}
 use mathlib.Core.List.{List, [], _∷_, _++_}
-use Prim.Native.Nat.{ℕ, _/_, _≤_, _<_}
+use Prim.Native.Nat.{ℕ, _/_, _≤_}
 use native.Mathlib.Omega.{arith}
 use borrow.Author.Tests.{lt-ltb}
 use lib.Bits.{bitXor}
-use lib.ListN.{length, getD, drop, set, length-drop}
+use lib.ListN.{length, drop, set, length-drop}
 use lib.Seq.{drop-drop}
 use Rattle.octets.specs.Octets.{eight, stored}
 use Rattle.bch.proofs.Ones.{ups, differ-ups, Rising, ups-rising}
 use Rattle.frame.specs.Word.{wordOf}
-use Rattle.frame.specs.Answers.{placesOf, flag, answer}
-use Rattle.frame.specs.Reads.{Reads}
-use Rattle.frame.specs.declared.Flips.{Flips}
-use Rattle.frame.specs.declared.Flips.the-variants.{Nowhere, One, Two}
-use Rattle.frame.specs.declared.Reading.the-variants.{Word}
+use Rattle.reader.specs.Answers.{placesOf, answer}
+use Rattle.reader.specs.Reads.{Reads}
+use Rattle.reader.specs.declared.Flips.{Flips}
+use Rattle.reader.specs.declared.Flips.the-variants.{Nowhere, One, Two}
+use Rattle.reader.specs.declared.Reading.the-variants.{Word}
 use Rattle.host.specs.Entries.{Small}
 
 four-stores : (d : ℕ) (r : List ℕ) → 4 ≤ length r → (n a b p : ℕ)

@@ -2,19 +2,41 @@
 ghost use mathlib.Core.Path.{_≡_};
 ghost use Prim.Native.Nat.{_≤_};
 ghost use lib.ListN.{length, getD};
-ghost use Rattle.frame.specs.Answers.{placesOf, flag};
-ghost use Rattle.frame.specs.Bytes.{MakesBytes, ReadsBytes};
-ghost use Rattle.host.specs.Entries.{codeOf, MakesCode, Small, laidOut, ReadsOut};
-use frame::Flips;
-use frame::Making;
-use frame::Reading;
+ghost use Rattle.reader.specs.Answers.{placesOf, flag};
+ghost use Rattle.maker.specs.Bytes.{MakesBytes};
+ghost use Rattle.reader.specs.Bytes.{ReadsBytes};
+ghost use Rattle.host.specs.Entries.{codeOf, MakesCode, Small, answerBytes, noPlace, laidOut, ReadsOut};
+use maker::Making;
+use reader::Flips;
+use reader::Reading;
+
+// The paper's refusals as C gets them.
+const OUTSIDE: u64 = paper::OUTSIDE as u64;
+
+const UNFIT: u64 = paper::UNFIT as u64;
+
+const NO_WORD: u64 = paper::NO_WORD as u64;
+
+const RUN_BROKEN: u64 = paper::RUN_BROKEN as u64;
+
+// The bytes of an answer.
+const ANSWER_BYTES: usize = 12;
+
+// In a byte for a place where there is none.
+const NO_PLACE: u8 = 255;
+
+fn wide(n: u8) -> u64
+    ensures { λ r. ⌜ r ≡ n ⌝ }
+{
+    n as u64
+}
 
 fn code_of(m: Making) -> u64
     ensures { λ n. ⌜ n ≡ codeOf m ⌝ }
 {
     match m {
         Making::Frame(f) => f,
-        Making::TooLarge => 11,
+        Making::TooLarge => OUTSIDE,
     }
 }
 
@@ -30,10 +52,10 @@ fn count_of(p: Flips) -> u8
 
 fn first_of(p: Flips) -> u8
     requires { ⌜ Small p ⌝ }
-    ensures { λ n. ⌜ n ≡ getD (placesOf p) 0 255 ⌝ }
+    ensures { λ n. ⌜ n ≡ getD (placesOf p) 0 noPlace ⌝ }
 {
     match p {
-        Flips::Nowhere => 255,
+        Flips::Nowhere => NO_PLACE,
         Flips::One(a) => a as u8,
         Flips::Two(a, _) => a as u8,
     }
@@ -41,11 +63,11 @@ fn first_of(p: Flips) -> u8
 
 fn second_of(p: Flips) -> u8
     requires { ⌜ Small p ⌝ }
-    ensures { λ n. ⌜ n ≡ getD (placesOf p) 1 255 ⌝ }
+    ensures { λ n. ⌜ n ≡ getD (placesOf p) 1 noPlace ⌝ }
 {
     match p {
-        Flips::Nowhere => 255,
-        Flips::One(_) => 255,
+        Flips::Nowhere => NO_PLACE,
+        Flips::One(_) => NO_PLACE,
         Flips::Two(_, b) => b as u8,
     }
 }
@@ -58,7 +80,7 @@ fn flag_of(wrong: bool) -> u8
 
 // A reading in the twelve bytes of the answer.
 fn lay_out(answer: &mut [u8], data: u64, flips: Flips, pad_wrong: bool)
-    requires { ⌜ (12 ≤ length (now answer)) × Small flips ⌝ }
+    requires { ⌜ (answerBytes ≤ length (now answer)) × Small flips ⌝ }
     ensures { λ _. ⌜ now (answer .exit) ≡ laidOut «data» (placesOf flips) (flag «pad_wrong») (now (answer .entry)) ⌝ }
 {
     octets::store(answer, 0, data);
@@ -72,17 +94,17 @@ fn lay_out(answer: &mut [u8], data: u64, flips: Flips, pad_wrong: bool)
 pub extern "C" fn lks_frame_make(data: u64) -> u64
     ensures { λ n. ⌜ MakesCode «data» n ⌝ }
 {
-    code_of(frame::make(data))
+    code_of(maker::make(data))
 }
 
 #[no_mangle]
 pub extern "C" fn lks_frame_read(frame: u64, answer: &mut [u8]) -> u64
     ensures { λ n. ⌜ ReadsOut frame (now (answer .entry)) n (now (answer .exit)) ⌝ }
 {
-    if answer.len() < 12 {
-        return 12;
+    if answer.len() < ANSWER_BYTES {
+        return UNFIT;
     }
-    match frame::read(frame) {
+    match reader::read(frame) {
         Reading::Word {
             data,
             flips,
@@ -91,8 +113,8 @@ pub extern "C" fn lks_frame_read(frame: u64, answer: &mut [u8]) -> u64
             lay_out(answer, data, flips, pad_wrong);
             0
         }
-        Reading::NoWord => 13,
-        Reading::RunBroken => 14,
+        Reading::NoWord => NO_WORD,
+        Reading::RunBroken => RUN_BROKEN,
     }
 }
 
@@ -100,12 +122,12 @@ pub extern "C" fn lks_frame_read(frame: u64, answer: &mut [u8]) -> u64
 pub extern "C" fn lks_frames_make(data: &[u8], frames: &mut [u8]) -> u64
     ensures { λ n. ⌜ MakesBytes (now («data» .entry)) (now (frames .entry)) n (now (frames .exit)) ⌝ }
 {
-    frame::number_of(frame::make_bytes(data, frames))
+    wide(maker::number_of(maker::make_bytes(data, frames)))
 }
 
 #[no_mangle]
 pub extern "C" fn lks_frames_read(frames: &[u8], data: &mut [u8], verdicts: &mut [u8]) -> u64
     ensures { λ n. ⌜ ReadsBytes (now (frames .entry)) (now («data» .entry)) (now (verdicts .entry)) n (now («data» .exit)) (now (verdicts .exit)) ⌝ }
 {
-    frame::number_of(frame::read_bytes(frames, data, verdicts))
+    wide(reader::number_of(reader::read_bytes(frames, data, verdicts)))
 }

@@ -4,17 +4,17 @@
 -- │ in-pieces     │                                                                │
 -- └───────────────┴────────────────────────────────────────────────────────────────┘
 use mathlib.Core.Path.{_≡_, refl, sym, ap, ap₂, _∙_, subst}
-use mathlib.Core.List.{List, [], _∷_, _++_, append-nil}
-use mathlib.Core.Logic.{_⊎_, inl, inr}
-use Prim.Native.Nat.{ℕ, _+_, _%_, _<_, _≤_}
+use mathlib.Core.List.{List, _++_, append-nil}
+use mathlib.Core.Logic.{inl, inr}
+use Prim.Native.Nat.{ℕ, _+_, _%_}
 use native.Mathlib.Omega.{arith}
 use lib.ListN.{length, length-append}
-use Rattle.tally.specs.Counts.{fresh, after}
+use Rattle.tally.specs.Counts.{after}
 use Rattle.tally.specs.Adds.{refusal}
 use Rattle.tally.specs.declared.Tally.{Tally}
 use Rattle.tally.proofs.Counting as tally
-use Rattle.lane.specs.Counts.{Seen, numberOf, totalsOf, CountedAs, Counts}
-use Rattle.lane.specs.Claims.{Octets, OneCount, Pieces, last, more, joining, Total, InPieces}
+use Rattle.lane.specs.Counts.{Seen, numberOf, totalsOf, Counts}
+use Rattle.lane.specs.Claims.{OneCount, Pieces, last, more, joining, InPieces}
 use Rattle.lane.specs.declared.Totals.{Totals}
 use Rattle.lane.specs.declared.Counted.{Counted}
 use Rattle.lane.specs.declared.Counted.the-variants.{Next, TooLong, OutOfRange, Full}

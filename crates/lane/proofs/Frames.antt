@@ -6,7 +6,7 @@
 -- └───────────────┴────────────────────────────────────────────────────────────────┘
 use mathlib.Core.Path.{_≡_, refl, sym, ap, ap₂, _∙_, subst}
 use mathlib.Core.List.{List, [], _∷_, _++_}
-use Prim.Native.Nat.{ℕ, zero, suc, _+_, _-_, _%_, _^_, _<_, _≤_}
+use Prim.Native.Nat.{ℕ, zero, suc, _+_, _-_, _%_, _<_}
 use native.Mathlib.Decide.{decLt}
 use native.Mathlib.Nat.{not-suc-le-zero, le-of-suc-le-suc, zero-lt-suc}
 use native.Mathlib.Omega.{arith}
@@ -14,14 +14,14 @@ use lib.ListN.{length, getD, length-append, List·getD-append}
 use lib.Seq.{ext-getD, getD-append-add}
 use Rattle.octets.specs.Octets.{numbersOf}
 use Rattle.octets.proofs.Joined.{numbers-join, numbers-lt}
-use Rattle.frame.specs.Answers.{Answer, verdict, padIn}
-use Rattle.frame.specs.Reads.{Reads}
-use Rattle.frame.specs.Lists.{VerdictOf, PadFlagOf}
-use Rattle.frame.specs.Demands.{Numbers}
-use Rattle.frame.proofs.Demands.{some-answer}
-use Rattle.frame.proofs.OneAnswer.{shown-one}
+use Rattle.reader.specs.Answers.{Answer, verdict, padIn}
+use Rattle.reader.specs.Reads.{Reads}
+use Rattle.reader.specs.Lists.{VerdictOf, PadFlagOf}
+use Rattle.reader.specs.Demands.{Numbers}
+use Rattle.reader.proofs.Demands.{some-answer}
+use Rattle.reader.proofs.OneAnswer.{shown-one}
 use Rattle.lane.specs.Counts.{Seen}
-use Rattle.lane.specs.Claims.{Octets, OneSeen, SomeSeen}
+use Rattle.lane.specs.Claims.{OneSeen, SomeSeen}
 
 -- at each place of xs, ys has what R allows
 Each : (ℕ → ℕ → Type 0) → List ℕ → List ℕ → Type 0

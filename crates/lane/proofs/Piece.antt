@@ -17,8 +17,9 @@ use lib.Seq.{getD-take, length-take-le, take-all, take-at}
 use Rattle.octets.specs.Octets.{numbersOf, Taken}
 use Rattle.octets.proofs.Joined.{numbers-len}
 use Rattle.laws.specs.Lent.{Written}
-use Rattle.frame.specs.Lists.{VerdictOf, PadFlagOf, readPadsAnswer, ReadsPads}
-use Rattle.tally.specs.Refusals.{mostFrames, framesIn}
+use Rattle.reader.specs.Lists.{VerdictOf, PadFlagOf, readPadsAnswer, ReadsPads}
+use Rattle.paper.specs.Numbers.{mostCounted}
+use Rattle.tally.specs.Ranges.{framesIn}
 use Rattle.tally.specs.Adds.{Adds}
 use Rattle.tally.specs.Adds.{numberOf as tallyNumber}
 use Rattle.tally.specs.declared.Tally.{Tally}
@@ -77,7 +78,7 @@ seen-in bs o₀ o ds₀ vs₀ ps₀ ds vs ps n m ho hd hv hp t r =
       };
     }
 
-pub few-frames : {t u : Tally} {vs ps : List ℕ} → Adds t vs ps (Taken-on u) → framesIn u ≤ mostFrames
+pub few-frames : {t u : Tally} {vs ps : List ℕ} → Adds t vs ps (Taken-on u) → framesIn u ≤ mostCounted
 few-frames {t} {u} {vs} {ps} a = leb-true _ _ (two _ _ (stays-in-range t u vs ps a) .0)
 
 module _ (t : Tally) (bs : List ℕ) (n : ℕ) (vs ps : List ℕ) (h : length bs ≤ 65536) (s : SeenIn bs n vs ps) where
@@ -98,9 +99,9 @@ module _ (t : Tally) (bs : List ℕ) (n : ℕ) (vs ps : List ℕ) (h : length bs
       same w x e = cc
 
   pub counts-refuse : (r : Added) (c : Counted) → Adds t (take n vs) (take n ps) r → numberOf c ≡ tallyNumber r
-      → ((w : Totals) → c ≡ Next w → ⊥) → Counts t bs c
+      → (numberOf c ≡ 0 → ⊥) → Counts t bs c
   counts-refuse r c a e never =
       inr (
         h,
-        record { vs = take n vs; ps = take n ps; seen = s .seen; number = e ∙ a .number; next = λ x q. absurd (never x q) },
+        record { vs = take n vs; ps = take n ps; seen = s .seen; number = e ∙ a .number; next = λ x q. absurd (never (ap numberOf q)) },
       )

@@ -1,6 +1,5 @@
 -- What is proved beside the contract.
 -- ┌─────────────────────┬──────────────────────────────────────────────────────────┐
--- │ Octets bs           │ each number of bs is a byte                              │
 -- │ OneSeen             │ frames have one list of verdicts and one of flags        │
 -- │ SomeSeen            │ and have them                                            │
 -- │ OneCount            │ no second answer meets the contract of `count`           │
@@ -13,17 +12,15 @@
 -- └─────────────────────┴──────────────────────────────────────────────────────────┘
 use mathlib.Core.Path.{_≡_}
 use mathlib.Core.List.{List, [], _∷_, _++_}
-use Prim.Native.Nat.{ℕ, _%_, _<_}
-use lib.ListN.{length, getD}
+use Prim.Native.Nat.{ℕ, _%_}
+use lib.ListN.{length}
+use Rattle.laws.specs.Bits.{Octets}
 use Rattle.tally.specs.Counts.{fresh, counts}
 use Rattle.tally.specs.declared.Tally.{Tally}
 use Rattle.lane.specs.Counts.{Seen, totalsOf, Counts}
 use Rattle.lane.specs.declared.Totals.{Totals}
 use Rattle.lane.specs.declared.Counted.{Counted}
 use Rattle.lane.specs.declared.Counted.the-variants.{Next}
-
-abbrev pub Octets : List ℕ → Type 0
-Octets bs = (i : ℕ) → getD bs i 0 < 256
 
 abbrev pub OneSeen : Type 0
 OneSeen = (bs vs ps ws qs : List ℕ) → Octets bs → Seen bs vs ps → Seen bs ws qs → (vs ≡ ws) × (ps ≡ qs)

@@ -3,20 +3,20 @@
 -- │ Seen bs vs ps       │ vs and ps are the verdicts and pad flags of the whole    │
 -- │                     │ frames of the bytes bs                                   │
 -- │ SeenIn bs n vs ps   │ the first n of vs and ps are so, n as many as frames     │
--- │ tooLong             │ 12: a piece over 65,536 bytes                            │
 -- │ numberOf r          │ the refusal of an answer, 0 where it is the next totals  │
 -- │ totalsOf t left     │ a tally with its frames and so many bytes left over      │
 -- │ CountedAs t bs r    │ r is the tally's own answer to these verdicts and flags  │
--- │ Counts t bs r       │ r is 12 for a piece that is too long, else `CountedAs`   │
+-- │ Counts t bs r       │ r is 12 for a piece over 65,536 bytes, else `CountedAs`  │
 -- └─────────────────────┴──────────────────────────────────────────────────────────┘
 use mathlib.Core.Path.{_≡_}
 use mathlib.Core.List.{List}
 use mathlib.Core.Logic.{_⊎_}
-use Prim.Native.Nat.{ℕ, _+_, _/_, _%_, _<_, _≤_}
+use Prim.Native.Nat.{ℕ, _/_, _%_, _<_, _≤_}
 use lib.ListN.{length, getD, take}
 use Rattle.octets.specs.Octets.{numbersOf}
-use Rattle.frame.specs.Lists.{VerdictOf, PadFlagOf}
-use Rattle.tally.specs.Refusals.{outside, pastCount, framesIn}
+use Rattle.reader.specs.Lists.{VerdictOf, PadFlagOf}
+use Rattle.paper.specs.Numbers.{unfit, outside, pastCount, mostBytes}
+use Rattle.tally.specs.Ranges.{framesIn}
 use Rattle.tally.specs.Counts.{after}
 use Rattle.tally.specs.Adds.{refusal}
 use Rattle.tally.specs.declared.Tally.{Tally}
@@ -35,12 +35,9 @@ pub record SeenIn (bs : List ℕ) (n : ℕ) (vs ps : List ℕ) : Type 0 where
   pub room : (n ≤ length vs) × (n ≤ length ps)
   pub seen : Seen bs (take n vs) (take n ps)
 
-abbrev pub tooLong : ℕ
-tooLong = 12
-
 abbrev pub numberOf : Counted → ℕ
 numberOf (Next u) = 0
-numberOf TooLong = tooLong
+numberOf TooLong = unfit
 numberOf OutOfRange = outside
 numberOf Full = pastCount
 
@@ -55,4 +52,4 @@ pub record CountedAs (t : Tally) (bs : List ℕ) (r : Counted) : Type 0 where
   pub next : (u : Totals) → r ≡ Next u → u ≡ totalsOf (after t vs ps) (length bs % 8)
 
 abbrev pub Counts : Tally → List ℕ → Counted → Type 0
-Counts t bs r = ((65536 < length bs) × (numberOf r ≡ tooLong)) ⊎ ((length bs ≤ 65536) × CountedAs t bs r)
+Counts t bs r = ((mostBytes < length bs) × (numberOf r ≡ unfit)) ⊎ ((length bs ≤ mostBytes) × CountedAs t bs r)

@@ -1,7 +1,8 @@
 // The count of a lane: bytes to frames, frames to verdicts and pad flags, these to the tally.
 ghost use mathlib.Core.Path.{_≡_};
 ghost use Prim.Native.Nat.{_≤_};
-ghost use Rattle.tally.specs.Refusals.{mostFrames, framesIn};
+ghost use Rattle.paper.specs.Numbers.{mostBytes, mostCounted};
+ghost use Rattle.tally.specs.Ranges.{framesIn};
 ghost use lib.ListN.{length};
 ghost use Rattle.lane.specs.Counts.{numberOf, totalsOf, SeenIn, Counts};
 use tally::Added;
@@ -24,19 +25,19 @@ pub enum Counted {
 }
 
 // The number of an answer: 0 where it is the next totals.
-pub fn number_of(c: Counted) -> u64
+pub fn number_of(c: Counted) -> u8
     ensures { λ n. ⌜ n ≡ numberOf c ⌝ }
 {
     match c {
         Counted::Next(_) => 0,
-        Counted::TooLong => 12,
-        Counted::OutOfRange => 11,
-        Counted::Full => 20,
+        Counted::TooLong => paper::UNFIT,
+        Counted::OutOfRange => paper::OUTSIDE,
+        Counted::Full => paper::PAST_COUNT,
     }
 }
 
 fn with_frames(t: Tally, left: u64) -> Totals
-    requires { ⌜ framesIn t ≤ mostFrames ⌝ }
+    requires { ⌜ framesIn t ≤ mostCounted ⌝ }
     ensures { λ r. ⌜ r ≡ totalsOf t left ⌝ }
 {
     Totals {
@@ -48,13 +49,13 @@ fn with_frames(t: Tally, left: u64) -> Totals
 
 // The verdicts and pad flags of the whole frames of a piece; answers how many there are.
 fn see(bytes: &[u8], verdicts: &mut [u8; 8192], pads: &mut [u8; 8192]) -> usize
-    requires { ⌜ length (now bytes) ≤ 65536 ⌝ }
+    requires { ⌜ length (now bytes) ≤ mostBytes ⌝ }
     ensures { λ n. ⌜ SeenIn (now (bytes .entry)) n (now (verdicts .exit)) (now (pads .exit)) ⌝ }
 {
     let mut frames = [0u64; 8192];
     let mut data = [0u64; 8192];
     let n = octets::numbers(bytes, &mut frames);
-    frame::read_list_pads(&frames[..n], &mut data, verdicts, pads);
+    reader::read_list_pads(&frames[..n], &mut data, verdicts, pads);
     n
 }
 
@@ -62,7 +63,7 @@ fn see(bytes: &[u8], verdicts: &mut [u8; 8192], pads: &mut [u8; 8192]) -> usize
 pub fn count(t: Tally, bytes: &[u8]) -> Counted
     ensures { λ r. ⌜ Counts t (now (bytes .entry)) r ⌝ }
 {
-    if 65536 < bytes.len() {
+    if paper::MOST_BYTES < bytes.len() {
         return Counted::TooLong;
     }
     let mut verdicts = [0u8; 8192];

@@ -5,11 +5,11 @@
 -- │ written-over  │ one place more, which the output does not have                     │
 -- │ written-as    │ a rule may be exchanged for one that allows as much                │
 -- │ one-written   │ where a rule allows one number for each element, there is one list │
--- │ leaves-done   │ what an answer leaves                                              │
--- │ leaves-as-was │ what a refusal leaves                                              │
--- │ one-leaves    │ there is no second list that a call may leave                      │
+-- │ left-done     │ what an answer leaves                                              │
+-- │ left-as-was   │ what a refusal leaves                                              │
+-- │ one-left      │ where an answer leaves one list, a call does                       │
 -- └───────────────┴────────────────────────────────────────────────────────────────────┘
-use mathlib.Core.Path.{_≡_, refl, sym, ap, _∙_, subst}
+use mathlib.Core.Path.{_≡_, refl, sym, _∙_, subst}
 use mathlib.Core.List.{List}
 use mathlib.Core.Logic.{_⊎_, inl, inr}
 use Prim.Native.Nat.{ℕ, _+_, _<_, _≤_}
@@ -18,7 +18,7 @@ use native.Mathlib.Nat.{eq-or-lt-of-le}
 use native.Mathlib.Omega.{arith}
 use lib.ListN.{length, getD, set, length-set}
 use lib.Seq.{getD-set-same, getD-set-other, ext-getD}
-use Rattle.laws.specs.Lent.{Written, Leaves}
+use Rattle.laws.specs.Lent.{Written, Left}
 
 module _ {R : ℕ → ℕ → Type 0} where
   pub written-none : (xs out : List ℕ) → Written R xs out out 0
@@ -60,17 +60,15 @@ module _ {R : ℕ → ℕ → Type 0} where
       by i h (yes l) = one i l _ _ (s .here i l h) (t .here i l (subst (λ (n : ℕ). i < n) (s .size ∙ sym (t .size)) h))
       by i h (no l) = s .past i (omega arith) ∙ sym (t .past i (omega arith))
 
-  pub leaves-done : {n : ℕ} {xs out₀ out : List ℕ} → n ≡ 0 → Written R xs out₀ out (length xs) → Leaves n R xs out₀ out
-  leaves-done e t = record { answered = λ z. t; refused = λ z. absurd (z e) }
+pub one-left : {n : ℕ} {U W : Type 0} {out₀ a b : List ℕ} → (U → W → a ≡ b) → Left n U out₀ a → Left n W out₀ b → a ≡ b
+one-left {n} {U} {W} {out₀} {a} {b} one s t = by (ℕ-discrete n 0)
+  where
+    by : Dec (n ≡ 0) → a ≡ b
+    by (yes z) = one (s .answered z) (t .answered z)
+    by (no z) = s .refused z ∙ sym (t .refused z)
 
-  pub leaves-as-was : {n : ℕ} {xs out₀ out : List ℕ} → (n ≡ 0 → ⊥) → out ≡ out₀ → Leaves n R xs out₀ out
-  leaves-as-was e t = record { answered = λ z. absurd (e z); refused = λ z. t }
+pub left-done : {n : ℕ} {W : Type 0} {out₀ out : List ℕ} → n ≡ 0 → W → Left n W out₀ out
+left-done e t = record { answered = λ z. t; refused = λ z. absurd (z e) }
 
-  pub one-leaves : {n : ℕ} {xs out₀ a b : List ℕ}
-      → ((i : ℕ) → i < length xs → (x y : ℕ) → R (getD xs i 0) x → R (getD xs i 0) y → x ≡ y)
-      → Leaves n R xs out₀ a → Leaves n R xs out₀ b → a ≡ b
-  one-leaves {n} {xs} {out₀} {a} {b} one s t = by (ℕ-discrete n 0)
-    where
-      by : Dec (n ≡ 0) → a ≡ b
-      by (yes z) = one-written one (s .answered z) (t .answered z)
-      by (no z) = s .refused z ∙ sym (t .refused z)
+pub left-as-was : {n : ℕ} {W : Type 0} {out₀ out : List ℕ} → (n ≡ 0 → ⊥) → out ≡ out₀ → Left n W out₀ out
+left-as-was e t = record { answered = λ z. absurd (e z); refused = λ z. t }

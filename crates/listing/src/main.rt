@@ -1,9 +1,7 @@
 // Counts the frames on standard input, eight bytes each, highest first, and prints eight lines.
-ghost use Rattle.io.specs.Counts.{Counts};
 use lane::Counted;
 use lane::Totals;
 use libc::STDERR_FILENO;
-use libc::STDIN_FILENO;
 use libc::STDOUT_FILENO;
 use tally::Tally;
 
@@ -15,48 +13,17 @@ enum State {
     Refused,
 }
 
-// How much of a buffer was filled before the input ended or a read failed.
-struct Filled {
-    bytes: usize,
-    failed: bool,
-}
-
-// Reads until the buffer is full or the input ends. A read may hand over any number of bytes.
-fn fill(buffer: &mut [u8]) -> Filled
-    ensures { λ r. ⌜ Counts (r .bytes) (now (buffer .exit)) ⌝ }
-{
-    let mut done = 0;
-    while done < buffer.len() {
-        let got = libc::read(STDIN_FILENO, &mut buffer[done..]);
-        if got < 0 {
-            return Filled {
-                bytes: done,
-                failed: true,
-            };
-        }
-        let n = io::count(got, &buffer[done..]);
-        if n == 0 {
-            break;
-        }
-        done += n;
-    }
-    Filled {
-        bytes: done,
-        failed: false,
-    }
-}
-
 // One buffer of input, counted on. A buffer that the input did not fill is the last.
 fn one_turn(t: Tally) -> State {
     let mut buffer = io::large_buffer();
-    let filled = fill(&mut buffer);
+    let filled = input::fill(&mut buffer);
     if filled.failed {
         return State::Unread;
     }
     let n = filled.bytes;
     match lane::count(t, &buffer[..n]) {
         Counted::Next(u) => {
-            if n < 65536 {
+            if n < paper::MOST_BYTES {
                 State::Done(u)
             } else {
                 State::More(u)

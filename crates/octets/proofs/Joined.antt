@@ -8,13 +8,15 @@
 -- │ one-taken     │ no second answer or list meets the contract of `numbers`       │
 -- └───────────────┴────────────────────────────────────────────────────────────────┘
 use mathlib.Core.Path.{_≡_, refl, sym, ap, ap₂, _∙_, subst}
-use mathlib.Core.List.{List, [], _∷_, _++_}
+use mathlib.Core.List.{List, _∷_, _++_}
 use Prim.Native.Nat.{ℕ, zero, suc, _+_, _*_, _/_, _%_, _^_, _<_, _≤_}
 use native.Mathlib.Nat.{add-zero, not-suc-le-zero, le-of-suc-le-suc, suc-mul, zero-add, suc-add, add-assoc}
 use native.Mathlib.Omega.{arith}
 use lib.ListN.{length, getD, take, drop, length-append, List·getD-append}
 use lib.Seq.{getD-append-add}
-use Rattle.octets.specs.Octets.{joined, numbers, numbersOf, Taken}
+use Rattle.laws.specs.Bits.{Octets}
+use Rattle.octets.specs.Octets.{joined, numbers, numbersOf}
+use Rattle.octets.specs.Claims.{OneTaken}
 
 pub joined-eight : (bs : List ℕ) (at : ℕ)
     → (((getD bs at 0 * 256 + getD bs (at + 1) 0) * 256 + getD bs (at + 2) 0) * 256 + getD bs (at + 3) 0) * 2 ^ 32
@@ -88,18 +90,18 @@ numbers-join a b h =
     (numbers-first m a b 0 (omega arith))
     (ap (numbers n (a ++ b)) f ∙ numbers-second n a b 0)
 
-joined-lt : (bs : List ℕ) (at : ℕ) → ((i : ℕ) → getD bs i 0 < 256) → joined 8 bs at < 2 ^ 64
+joined-lt : (bs : List ℕ) (at : ℕ) → Octets bs → joined 8 bs at < 2 ^ 64
 unfolding joined
 joined-lt bs at h =
     omega
     (arith, h (at + 0), h (at + 1), h (at + 2), h (at + 3), h (at + 4), h (at + 5), h (at + 6), h (at + 7))
 
-pub numbers-lt : (bs : List ℕ) → ((i : ℕ) → getD bs i 0 < 256) → (i : ℕ) → i < length (numbersOf bs) → getD (numbersOf bs) i 0 < 2 ^ 64
+pub numbers-lt : (bs : List ℕ) → Octets bs → (i : ℕ) → i < length (numbersOf bs) → getD (numbersOf bs) i 0 < 2 ^ 64
 numbers-lt bs h i l =
     let k : i < length bs / 8 = subst (λ (n : ℕ). i < n) (numbers-len (length bs / 8) bs 0) l in
     subst (λ (x : ℕ). x < 2 ^ 64) (sym (numbers-at (length bs / 8) bs 0 i k)) (joined-lt bs (0 + i * 8) h)
 
-pub one-taken : (bs o₀ : List ℕ) (m n : ℕ) (o p : List ℕ) → Taken bs o₀ m o → Taken bs o₀ n p → (m ≡ n) × (o ≡ p)
+pub one-taken : OneTaken
 one-taken bs o₀ m n o p s t =
     let e : m ≡ n = s .count ∙ sym (t .count) in
     (e, s .front ∙ ap (λ (k : ℕ). take k (numbersOf bs) ++ drop k o₀) e ∙ sym (t .front))

@@ -4,21 +4,17 @@
 -- │ bytes-on      │ one number more, stored                                            │
 -- │ bytes-size    │ the output keeps its length                                        │
 -- │ one-bytes     │ where a rule allows one number for each element, there is one list │
--- │ bytes-done    │ what an answer leaves                                              │
--- │ bytes-as-was  │ what a refusal leaves                                              │
--- │ one-leaves    │ there is no second list that a call may leave                      │
 -- └───────────────┴────────────────────────────────────────────────────────────────────┘
 use mathlib.Core.Path.{_≡_, refl, sym, ap, ap₂, _∙_, subst}
 use mathlib.Core.List.{List, [], _∷_, _++_}
 use mathlib.Core.Logic.{_⊎_, inl, inr}
 use Prim.Native.Nat.{ℕ, _+_, _*_, _/_, _<_, _≤_}
-use native.Mathlib.Decide.{ℕ-discrete}
 use native.Mathlib.Nat.{eq-or-lt-of-le, add-zero}
 use native.Mathlib.Omega.{arith}
 use lib.ListN.{length, getD, drop, length-append, length-drop, List·getD-append}
 use lib.Seq.{ext-getD, getD-append-add}
 use Rattle.octets.specs.Octets.{bytesOf, stored}
-use Rattle.octets.specs.Lent.{WrittenBytes, LeavesBytes}
+use Rattle.octets.specs.Lent.{WrittenBytes}
 use Rattle.octets.proofs.Stored.{length-bytes, stored-more}
 
 module _ {R : ℕ → ℕ → Type 0} where
@@ -65,18 +61,3 @@ module _ {R : ℕ → ℕ → Type 0} where
       ext-getD 0 (s .ys) (t .ys) (s .many ∙ sym (t .many))
       (λ i h. let l : i < k = subst (λ (n : ℕ). i < n) (s .many) h in one i l _ _ (s .here i l) (t .here i l)) in
       s .bytes ∙ ap (λ (l : List ℕ). bytesOf l ++ drop (k * 8) out₀) e ∙ sym (t .bytes)
-
-  pub bytes-done : {n : ℕ} {xs out₀ out : List ℕ} → n ≡ 0 → WrittenBytes R xs out₀ out (length xs) → LeavesBytes n R xs out₀ out
-  bytes-done e t = record { answered = λ z. t; refused = λ z. absurd (z e) }
-
-  pub bytes-as-was : {n : ℕ} {xs out₀ out : List ℕ} → (n ≡ 0 → ⊥) → out ≡ out₀ → LeavesBytes n R xs out₀ out
-  bytes-as-was e t = record { answered = λ z. absurd (e z); refused = λ z. t }
-
-  pub one-leaves : {n : ℕ} {xs out₀ a b : List ℕ}
-      → ((i : ℕ) → i < length xs → (x y : ℕ) → R (getD xs i 0) x → R (getD xs i 0) y → x ≡ y)
-      → LeavesBytes n R xs out₀ a → LeavesBytes n R xs out₀ b → a ≡ b
-  one-leaves {n} {xs} {out₀} {a} {b} one s t = by (ℕ-discrete n 0)
-    where
-      by : Dec (n ≡ 0) → a ≡ b
-      by (yes z) = one-bytes one (s .answered z) (t .answered z)
-      by (no z) = s .refused z ∙ sym (t .refused z)

@@ -17,7 +17,8 @@ use lib.Dec.{ltb, eqb}
 use borrow.Author.Tests.{le-ltb, lt-ltb, ltb-false, eq-eqb, ne-eqb, eqb-true, not-false}
 use lib.ListN.{length, length-append}
 use Rattle.pattern.specs.Bits.{highest, bitsOf}
-use Rattle.pattern.specs.Refusal.{tooLong, outside, pastCount, allZero, mostBytes, mostBits, secondTap}
+use Rattle.paper.specs.Numbers.{unfit, outside, pastCount, allZero, mostBytes, mostCounted}
+use Rattle.pattern.specs.Patterns.{secondTap}
 use Rattle.pattern.specs.Counting.{zeroFilled, counted, fed, feedAnswer}
 use Rattle.pattern.specs.declared.counter.Counter.{Counter}
 use Rattle.pattern.specs.declared.counter.Fed.{Fed}
@@ -44,7 +45,7 @@ bits-join [] ys = refl
 bits-join (x ∷ xs) ys = ap (λ (l : List ℕ). highest 8 x ++ l) (bits-join xs ys) ∙ sym (append-assoc (highest 8 x) (bitsOf xs) (bitsOf ys))
 
 abbrev pub past-count : Counter → List ℕ → Bool
-past-count c piece = ltb mostBits (fed c piece .bits)
+past-count c piece = ltb mostCounted (fed c piece .bits)
 
 abbrev pub zero-filled : Counter → List ℕ → Bool
 zero-filled c piece = zeroFilled (c .pattern) (secondTap (c .pattern)) c (bitsOf piece)
@@ -52,9 +53,9 @@ zero-filled c piece = zeroFilled (c .pattern) (secondTap (c .pattern)) c (bitsOf
 -- the answers, in the order of the tests
 module _ (t : Fed) (long inside past zero : Bool) where
   abbrev tests : Fed
-  tests = cond long (Refused tooLong) (cond (not inside) (Refused outside) (cond past (Refused pastCount) (cond zero (Refused allZero) t)))
+  tests = cond long (Refused unfit) (cond (not inside) (Refused outside) (cond past (Refused pastCount) (cond zero (Refused allZero) t)))
 
-  first : long ≡ true → tests ≡ Refused tooLong
+  first : long ≡ true → tests ≡ Refused unfit
   first e = simp e
 
   second : long ≡ false → inside ≡ false → tests ≡ Refused outside
@@ -69,7 +70,7 @@ module _ (t : Fed) (long inside past zero : Bool) where
   last : long ≡ false → inside ≡ true → past ≡ false → zero ≡ false → tests ≡ t
   last e f g h = simp (e, f, g, h)
 
-pub refuse-long : (c : Counter) (piece : List ℕ) → mostBytes < length piece → Refused tooLong ≡ feedAnswer c piece
+pub refuse-long : (c : Counter) (piece : List ℕ) → mostBytes < length piece → Refused unfit ≡ feedAnswer c piece
 refuse-long c piece h = sym (first (Counted (fed c piece)) (ltb mostBytes (length piece)) (counted c) (past-count c piece) (zero-filled c piece) (lt-ltb _ _ h))
 
 pub unknown : (c : Counter) → (c .pattern ≡ 11 → ⊥) → (c .pattern ≡ 31 → ⊥) → counted c ≡ false
@@ -92,12 +93,12 @@ module _ (c : Counter) (piece : List ℕ) (short : length piece ≤ mostBytes) w
         let k = taps (c .pattern) (s .known) in
         zero-at-end (c .pattern) (secondTap (c .pattern)) (k .0) (k .2) (bits-bits piece) c (steady c s) (s .live)
 
-    pub refuse-past : mostBits + (c .pattern - c .filled) < c .bits + length piece * 8 → Refused pastCount ≡ feedAnswer c piece
-    refuse-past h = sym (third (Counted (fed c piece)) (ltb mostBytes (length piece)) (counted c) (past-count c piece) (zero-filled c piece) (le-ltb _ _ short) inside (lt-ltb mostBits (fed c piece .bits) (omega (arith, compared))))
+    pub refuse-past : mostCounted + (c .pattern - c .filled) < c .bits + length piece * 8 → Refused pastCount ≡ feedAnswer c piece
+    refuse-past h = sym (third (Counted (fed c piece)) (ltb mostBytes (length piece)) (counted c) (past-count c piece) (zero-filled c piece) (le-ltb _ _ short) inside (lt-ltb mostCounted (fed c piece .bits) (omega (arith, compared))))
 
-    module _ (room : c .bits + length piece * 8 ≤ mostBits + (c .pattern - c .filled)) where
+    module _ (room : c .bits + length piece * 8 ≤ mostCounted + (c .pattern - c .filled)) where
       within : past-count c piece ≡ false
-      within = le-ltb mostBits (fed c piece .bits) (omega (arith, compared, sound c inside .bits))
+      within = le-ltb mostCounted (fed c piece .bits) (omega (arith, compared, sound c inside .bits))
 
       pub refuse-zero : fed c piece .filled ≡ c .pattern → fed c piece .register ≡ 0 → Refused allZero ≡ feedAnswer c piece
       refuse-zero f z = sym (fourth (Counted (fed c piece)) (ltb mostBytes (length piece)) (counted c) (past-count c piece) (zero-filled c piece) (le-ltb _ _ short) inside within (at-end ∙ ap₂ _&&_ (eq-eqb _ _ f) (eq-eqb _ _ z)))
@@ -111,13 +112,13 @@ not-refused e = let z : _≡_ {A = ℕ} 0 1 = cc in omega arith
 pub record Taken (c : Counter) (piece : List ℕ) (d : Counter) : Type 0 where
   pub short : length piece ≤ mostBytes
   pub inside : counted c ≡ true
-  pub room : fed c piece .bits ≤ mostBits
+  pub room : fed c piece .bits ≤ mostCounted
   pub live : zero-filled c piece ≡ false
   pub next : fed c piece ≡ d
 
 pub taken : (c : Counter) (piece : List ℕ) (d : Counter) → feedAnswer c piece ≡ Counted d → Taken c piece d
 taken c piece d e =
-    let p = past (ltb mostBytes (length piece)) (Refused tooLong) _ (Counted d) not-refused e in
+    let p = past (ltb mostBytes (length piece)) (Refused unfit) _ (Counted d) not-refused e in
     let q = past (not (counted c)) (Refused outside) _ (Counted d) not-refused (p .1) in
     let r = past (past-count c piece) (Refused pastCount) _ (Counted d) not-refused (q .1) in
     let s = past (zero-filled c piece) (Refused allZero) _ (Counted d) not-refused (r .1) in

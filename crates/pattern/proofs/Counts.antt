@@ -18,10 +18,12 @@ use lib.Dec.{T}
 use borrow.Author.Tests.{eq-eqb}
 use lib.ListN.{length, getD, take, drop, take-append-drop, length-drop, drop-of-length-le}
 use lib.Seq.{length-take-le, getD-take, drop-nil}
-use Rattle.pattern.specs.Bits.{bit, number, highest, bitsOf}
+use Rattle.laws.specs.Bits.{bit}
+use Rattle.pattern.specs.Bits.{number, highest, bitsOf}
 use Rattle.pattern.specs.Sequence.{Follows, onward, run}
-use Rattle.pattern.specs.Refusal.{pattern, secondTap}
-use Rattle.pattern.specs.Counting.{unlike, fedBits, fresh}
+use Rattle.pattern.specs.Patterns.{pattern, secondTap}
+use Rattle.laws.specs.Bits.{unlike}
+use Rattle.pattern.specs.Counting.{fedBits, fresh}
 use Rattle.pattern.specs.Theorems.{Begins, joined, AllFed, errorsFrom, CountsErrors}
 use Rattle.pattern.specs.declared.counter.Counter.{Counter}
 use Rattle.pattern.proofs.Laws.{below-or}

@@ -18,7 +18,8 @@ use lib.Arith.{digits-lt}
 use lib.Pow.{pow-add, mod-pow-add, shr-shr, high, low}
 use lib.ListN.{length, length-append}
 use Rattle.laws.proofs.Xor.{bit-lt}
-use Rattle.pattern.specs.Bits.{bit, number, highest}
+use Rattle.laws.specs.Bits.{bit}
+use Rattle.pattern.specs.Bits.{number, highest}
 use Rattle.pattern.proofs.Laws.{bit-mod}
 
 pub data Bits : List ℕ → Type 0 where

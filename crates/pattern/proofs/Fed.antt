@@ -27,7 +27,8 @@ use lib.ListN.{length}
 use Rattle.laws.proofs.Xor.{bit-ind}
 use Rattle.pattern.specs.Bits.{number}
 use Rattle.pattern.specs.Sequence.{nextBit, step, onward, run}
-use Rattle.pattern.specs.Counting.{unlike, filling, comparing, fedBit, fedBits}
+use Rattle.laws.specs.Bits.{unlike}
+use Rattle.pattern.specs.Counting.{filling, comparing, fedBit, fedBits}
 use Rattle.pattern.specs.Private.{Steady}
 use Rattle.pattern.specs.declared.counter.Counter.{Counter}
 use Rattle.pattern.proofs.Laws.{below-or}

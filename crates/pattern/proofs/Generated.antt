@@ -14,9 +14,11 @@ use native.Mathlib.Omega.{arith}
 use lib.Dec.{T, ltb, eqb}
 use borrow.Author.Tests.{le-ltb, ltb-false, lt-ltb, eqb-false, ne-eqb, not-false}
 use lib.ListN.{length, getD, length-append}
-use Rattle.pattern.specs.Bits.{bit, number, highest, bitsOf}
+use Rattle.laws.specs.Bits.{bit}
+use Rattle.pattern.specs.Bits.{number, highest, bitsOf}
 use Rattle.pattern.specs.Sequence.{onward, run, bytes}
-use Rattle.pattern.specs.Refusal.{mostBytes, pattern, secondTap, tooLong, outside, allZero}
+use Rattle.paper.specs.Numbers.{mostBytes, unfit, outside, allZero}
+use Rattle.pattern.specs.Patterns.{pattern, secondTap}
 use Rattle.pattern.specs.Generation.{registered, advanced, fillAnswer, fillLeaves}
 use Rattle.pattern.specs.Theorems.{OneFill, Continues, FillsOn, FillsInPieces}
 use Rattle.pattern.specs.declared.generator.Generator.{Generator}
@@ -56,7 +58,7 @@ record Accepted (g h : Generator) (n : ℕ) : Type 0 where
 
 accepted : (g h : Generator) (n : ℕ) → Advanced h ≡ fillAnswer g n → Accepted g h n
 accepted g h n e =
-    let p = past (ltb mostBytes n) (Refused tooLong) _ (Advanced h) not-refused (sym e) in
+    let p = past (ltb mostBytes n) (Refused unfit) _ (Advanced h) not-refused (sym e) in
     let q = past (not (registered (g .pattern) (g .register))) (Refused outside) _ (Advanced h) not-refused (p .1) in
     let r = past (eqb (g .register) 0) (Refused allZero) _ (Advanced h) not-refused (q .1) in
     let s = r .1 in

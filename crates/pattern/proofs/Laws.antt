@@ -29,7 +29,7 @@ use borrow.Author.Tests.{ltb-true, ltb-false}
 use lib.Bits.{bitXor, differ, xor-shr}
 use Rattle.laws.proofs.Truth.{is-true, two}
 use Rattle.laws.proofs.Xor.{xor-odd}
-use Rattle.pattern.specs.Bits.{bit}
+use Rattle.laws.specs.Bits.{bit}
 
 pub below-or : (m n : ℕ) → (m < n) ⊎ (n ≤ m)
 below-or m n = go (ltb m n) refl

@@ -17,7 +17,8 @@ use lib.ListN.{length, getD, take, drop, length-drop}
 use lib.Seq.{take-at, getD-drop}
 use Rattle.pattern.specs.Bits.{number, bitsOf}
 use Rattle.pattern.specs.Sequence.{Follows, onward, run}
-use Rattle.pattern.specs.Refusal.{mostBits, pattern, secondTap}
+use Rattle.paper.specs.Numbers.{mostCounted}
+use Rattle.pattern.specs.Patterns.{pattern, secondTap}
 use Rattle.pattern.specs.Generation.{registered}
 use Rattle.pattern.specs.Counting.{fedBits, zeroFilled, fresh, fed}
 use Rattle.pattern.specs.Theorems.{joined, OwnOutput}
@@ -123,6 +124,6 @@ own-output p r n pieces inside live J S most =
     let f : fed (fresh p) (joined pieces) ≡ fedBits p t (fresh p) (run p t m r) = ap (fedBits p t (fresh p)) e in
     let w = errorless p r m inside live in
     let i = counts (fresh p) (fresh-sound p (registered-pattern p r inside)) in
-    let b : fed (fresh p) (joined pieces) .bits ≤ mostBits = omega (arith, ap (λ (c : Counter). c .bits) f, w .0) in
+    let b : fed (fresh p) (joined pieces) .bits ≤ mostCounted = omega (arith, ap (λ (c : Counter). c .bits) f, w .0) in
     let z : zero-filled (fresh p) (joined pieces) ≡ false = ap (zeroFilled p t (fresh p)) e ∙ zero-free p r m inside live in
     (fed (fresh p) (joined pieces), (feeds-all pieces (fresh p) S i b z, ap (λ (c : Counter). c .errors) f ∙ w .1))

@@ -18,7 +18,8 @@ use lib.Dec.{T, eqb}
 use borrow.Author.Tests.{eq-eqb}
 use lib.ListN.{length, length-append}
 use Rattle.pattern.specs.Bits.{bitsOf}
-use Rattle.pattern.specs.Refusal.{mostBytes, mostBits, pattern, secondTap}
+use Rattle.paper.specs.Numbers.{mostBytes, mostCounted}
+use Rattle.pattern.specs.Patterns.{pattern, secondTap}
 use Rattle.pattern.specs.Counting.{fedBit, fedBits, nowZero, zeroFilled, counted, fed}
 use Rattle.pattern.specs.Theorems.{joined, AllFed, AllShort, FeedsOn, FeedsInPieces}
 use Rattle.pattern.specs.declared.counter.Counter.{Counter}
@@ -59,7 +60,7 @@ module _ (c : Counter) (a b : List ℕ) where
       record {
         short = l;
         inside = s .inside;
-        room = subst (λ (x : Counter). x .bits ≤ mostBits) (sym fed-join) (u .room);
+        room = subst (λ (x : Counter). x .bits ≤ mostCounted) (sym fed-join) (u .room);
         live = zero-join ∙ ap₂ _||_ (s .live) (u .live);
         next = fed-join ∙ u .next;
       }
@@ -129,7 +130,7 @@ feeds-on c d piece e =
 -- a first piece is accepted where what follows it does not pass the count
 first-taken :
     (c : Counter) (piece rest : List ℕ) → counted c ≡ true → length piece ≤ mostBytes → zero-filled c piece ≡ false
-    → fed (fed c piece) rest .bits ≤ mostBits → Taken c piece (fed c piece)
+    → fed (fed c piece) rest .bits ≤ mostCounted → Taken c piece (fed c piece)
 first-taken c piece rest i l z b =
     let d = fed c piece in
     let p = c .pattern in
@@ -140,12 +141,12 @@ first-taken c piece rest i l z b =
 
 pub feeds-all :
     (pieces : List (List ℕ)) (c : Counter) → AllShort pieces → counted c ≡ true
-    → fed c (joined pieces) .bits ≤ mostBits → zero-filled c (joined pieces) ≡ false → AllFed c pieces (fed c (joined pieces))
+    → fed c (joined pieces) .bits ≤ mostCounted → zero-filled c (joined pieces) ≡ false → AllFed c pieces (fed c (joined pieces))
 unfolding joined
 feeds-all [] c s i b z = subst (AllFed c []) (sym (fed-nothing c)) AllFed.none
 feeds-all (piece ∷ pieces) c (AllShort.more l s) i b z =
     let w = neither (zero-filled c piece) (zero-filled (fed c piece) (joined pieces)) (sym (zero-join c piece (joined pieces)) ∙ z) in
-    let B : fed (fed c piece) (joined pieces) .bits ≤ mostBits = subst (λ (x : Counter). x .bits ≤ mostBits) (fed-join c piece (joined pieces)) b in
+    let B : fed (fed c piece) (joined pieces) .bits ≤ mostCounted = subst (λ (x : Counter). x .bits ≤ mostCounted) (fed-join c piece (joined pieces)) b in
     let R = first-taken c piece (joined pieces) i l (w .0) B in
     subst (AllFed c (piece ∷ pieces)) (sym (fed-join c piece (joined pieces)))
     (AllFed.more (take c piece (fed c piece) R) (feeds-all pieces (fed c piece) s (counts (fed c piece) (after-sound c piece R)) B (w .1)))

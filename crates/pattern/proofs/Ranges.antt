@@ -13,7 +13,7 @@ use Prim.Native.Nat.{ℕ, _^_, _≤_, _<_}
 use native.Mathlib.Omega.{arith}
 use lib.Dec.{T, eqb, ltb, eqb→eq, ltb→lt}
 use Rattle.laws.proofs.Truth.{and-l, and-r, or-cases, is-true}
-use Rattle.pattern.specs.Refusal.{pattern, secondTap}
+use Rattle.pattern.specs.Patterns.{pattern, secondTap}
 use Rattle.pattern.specs.Generation.{registered}
 
 pub either : (p : ℕ) → T (pattern p) → (p ≡ 11) ⊎ (p ≡ 31)

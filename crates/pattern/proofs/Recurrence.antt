@@ -15,7 +15,7 @@ use native.Mathlib.Omega.{arith}
 use lib.ListN.{getD}
 use lib.Pow.{pow-pos, shr-le, shr-lt, split}
 use Rattle.laws.proofs.Xor.{bit-lt}
-use Rattle.pattern.specs.Bits.{bit}
+use Rattle.laws.specs.Bits.{bit}
 use Rattle.pattern.specs.Sequence.{Follows, nextBit, step, onward, run}
 use Rattle.pattern.specs.Theorems.{Begins, OneSequence, SomeSequence}
 use Rattle.pattern.proofs.Laws.{below-or, bit-mod, bit-above, mod-digit}

@@ -18,7 +18,8 @@ use borrow.Author.Tests.{le-leb, lt-ltb, le-ltb, eq-eqb, ne-eqb, leb-true, ltb-t
 use lib.Pow.{shr-le}
 use lib.ListN.{length}
 use Rattle.pattern.specs.Sequence.{nextBit, onward}
-use Rattle.pattern.specs.Refusal.{pattern, mostBits}
+use Rattle.paper.specs.Numbers.{mostCounted}
+use Rattle.pattern.specs.Patterns.{pattern}
 use Rattle.pattern.specs.Counting.{filling, fedBits, zeroFilled, counted}
 use Rattle.pattern.specs.Private.{Steady}
 use Rattle.pattern.specs.declared.counter.Counter.{Counter}
@@ -35,7 +36,7 @@ pub record Sound (c : Counter) : Type 0 where
   pub live : c .filled ≡ c .pattern → c .register ≡ 0 → ⊥
   pub idle : (c .filled ≡ c .pattern → ⊥) → c .bits ≡ 0
   pub errors : c .errors ≤ c .bits
-  pub bits : c .bits ≤ mostBits
+  pub bits : c .bits ≤ mostCounted
 
 pub sound : (c : Counter) → counted c ≡ true → Sound c
 unfolding counted

@@ -16,7 +16,8 @@ use lib.Pow.{pow-pos, shr-shr}
 use lib.Bits.{bitXor}
 use lib.ListN.{length}
 use Rattle.laws.proofs.Xor.{bit-lt, differ-sum}
-use Rattle.pattern.specs.Bits.{bit, number}
+use Rattle.laws.specs.Bits.{bit}
+use Rattle.pattern.specs.Bits.{number}
 use Rattle.pattern.specs.Sequence.{nextBit, step, onward, run}
 use Rattle.pattern.proofs.Laws.{twice-mod, mod-digit, bit-mod, bit-above, xor-bit}
 use Rattle.pattern.proofs.Digits.{Bits, none, more, number-snoc, number-lt}

@@ -1,16 +1,13 @@
 -- Bits as numbers 0 and 1, bytes as numbers, and what stands where.
 -- ┌─────────────┬───────────────────────────────────────────────────────────────┐
--- │ bit x i     │ bit i of the number x, the lowest is bit 0                    │
 -- │ number xs   │ the number whose bits are xs, the highest first               │
 -- │ highest k x │ the k lowest bits of x, the highest of them first             │
 -- │ bitsOf l    │ the bits of a list of bytes: each gives its highest bit first │
 -- └─────────────┴───────────────────────────────────────────────────────────────┘
 use mathlib.Core.List.{List, [], _∷_, _++_}
-use Prim.Native.Nat.{ℕ, zero, suc, _+_, _*_, _/_, _%_, _^_}
+use Prim.Native.Nat.{ℕ, zero, suc, _+_, _*_, _^_}
 use lib.ListN.{length}
-
-abbrev pub bit : ℕ → ℕ → ℕ
-bit x i = x / 2 ^ i % 2
+use Rattle.laws.specs.Bits.{bit}
 
 unfoldable pub number : List ℕ → ℕ
 number [] = 0

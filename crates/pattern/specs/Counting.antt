@@ -1,6 +1,5 @@
 -- What the counter answers.
 -- ┌─────────────────────┬──────────────────────────────────────────────────────────┐
--- │ unlike x y          │ 1 where two bits differ, 0 where not                     │
 -- │ filling c x         │ the bit x enters the register                            │
 -- │ comparing L T c x   │ the pattern runs on by itself, and x is compared with it │
 -- │ fedBit L T c x      │ the counter after a bit: first it is filled, then it     │
@@ -19,17 +18,16 @@ use mathlib.Core.List.{List, [], _∷_}
 use Prim.Native.Nat.{ℕ, _+_, _*_, _^_}
 use lib.Dec.{leb, ltb, eqb}
 use lib.ListN.{length}
+use Rattle.laws.specs.Bits.{unlike}
 use Rattle.pattern.specs.Bits.{bitsOf}
 use Rattle.pattern.specs.Sequence.{nextBit, step}
-use Rattle.pattern.specs.Refusal.{tooLong, outside, pastCount, allZero, mostBytes, mostBits, pattern, secondTap}
+use Rattle.paper.specs.Numbers.{unfit, outside, pastCount, allZero, mostBytes, mostCounted}
+use Rattle.pattern.specs.Patterns.{pattern, secondTap}
 use Rattle.pattern.specs.declared.counter.Counter.{Counter}
 use Rattle.pattern.specs.declared.counter.Opened.{Opened}
 use Rattle.pattern.specs.declared.counter.Opened.the-variants as opened
 use Rattle.pattern.specs.declared.counter.Fed.{Fed}
 use Rattle.pattern.specs.declared.counter.Fed.the-variants.{Counted, Refused}
-
-abbrev pub unlike : ℕ → ℕ → ℕ
-unlike x y = cond (eqb x y) 0 1
 
 abbrev pub filling : Counter → ℕ → Counter
 filling c x =
@@ -73,7 +71,7 @@ counted c =
     && not (eqb (c .filled) (c .pattern) && eqb (c .register) 0)
     && (eqb (c .filled) (c .pattern) || eqb (c .bits) 0)
     && leb (c .errors) (c .bits)
-    && leb (c .bits) mostBits
+    && leb (c .bits) mostCounted
 
 abbrev pub fresh : ℕ → Counter
 fresh p = record { pattern = p; filled = 0; register = 0; bits = 0; errors = 0 }
@@ -86,7 +84,7 @@ freshAnswer p = cond (not (pattern p)) (opened.Refused outside) (opened.Fresh (f
 
 abbrev pub feedAnswer : Counter → List ℕ → Fed
 feedAnswer c piece =
-    cond (ltb mostBytes (length piece)) (Refused tooLong)
+    cond (ltb mostBytes (length piece)) (Refused unfit)
     (cond (not (counted c)) (Refused outside)
-    (cond (ltb mostBits (fed c piece .bits)) (Refused pastCount)
+    (cond (ltb mostCounted (fed c piece .bits)) (Refused pastCount)
     (cond (zeroFilled (c .pattern) (secondTap (c .pattern)) c (bitsOf piece)) (Refused allZero) (Counted (fed c piece)))))

@@ -14,7 +14,8 @@ use Prim.Native.Nat.{ℕ, _*_, _^_}
 use lib.Dec.{ltb, eqb}
 use lib.ListN.{length}
 use Rattle.pattern.specs.Sequence.{onward, bytes}
-use Rattle.pattern.specs.Refusal.{tooLong, outside, allZero, mostBytes, pattern, secondTap}
+use Rattle.paper.specs.Numbers.{unfit, outside, allZero, mostBytes}
+use Rattle.pattern.specs.Patterns.{pattern, secondTap}
 use Rattle.pattern.specs.declared.generator.Generator.{Generator}
 use Rattle.pattern.specs.declared.generator.Started.{Started}
 use Rattle.pattern.specs.declared.generator.Started.the-variants as started
@@ -34,7 +35,7 @@ advanced g n = record { pattern = g .pattern; register = onward (g .pattern) (se
 
 abbrev pub fillAnswer : Generator → ℕ → Filled
 fillAnswer g n =
-    cond (ltb mostBytes n) (filled.Refused tooLong)
+    cond (ltb mostBytes n) (filled.Refused unfit)
     (cond (not (registered (g .pattern) (g .register))) (filled.Refused outside)
     (cond (eqb (g .register) 0) (filled.Refused allZero) (filled.Advanced (advanced g n))))
 

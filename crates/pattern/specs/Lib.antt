@@ -1,6 +1,6 @@
 pub mod Bits
 pub mod Sequence
-pub mod Refusal
+pub mod Patterns
 pub mod Generation
 pub mod Counting
 pub mod Reporting

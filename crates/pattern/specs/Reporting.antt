@@ -9,7 +9,7 @@ use Prim.Native.Nat.{ℕ}
 use lib.Dec.{eqb}
 use lib.IntN.{pos}
 use lib.Ieee.{Float, binary64, div, ofInt}
-use Rattle.pattern.specs.Refusal.{outside, nothingCompared}
+use Rattle.paper.specs.Numbers.{outside, nothingCompared}
 use Rattle.pattern.specs.Counting.{counted}
 use Rattle.pattern.specs.declared.counter.Counter.{Counter}
 use Rattle.pattern.specs.declared.report.Report.{Report}

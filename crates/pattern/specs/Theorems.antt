@@ -32,11 +32,14 @@ use lib.ListN.{length, getD, drop}
 use lib.IntN.{pos}
 use lib.Ieee.{binary64, ofInt, toUnsigned, round}
 use lib.Ieee.Exact.{HasValue}
-use Rattle.pattern.specs.Bits.{bit, bitsOf}
+use Rattle.laws.specs.Bits.{bit}
+use Rattle.pattern.specs.Bits.{bitsOf}
 use Rattle.pattern.specs.Sequence.{Follows, bytes}
-use Rattle.pattern.specs.Refusal.{mostBytes, mostBits, secondTap}
+use Rattle.paper.specs.Numbers.{mostBytes, mostCounted}
+use Rattle.pattern.specs.Patterns.{secondTap}
 use Rattle.pattern.specs.Generation.{registered, Fills, fillAnswer, advanced}
-use Rattle.pattern.specs.Counting.{unlike, counted, fresh, feedAnswer}
+use Rattle.laws.specs.Bits.{unlike}
+use Rattle.pattern.specs.Counting.{counted, fresh, feedAnswer}
 use Rattle.pattern.specs.Reporting.{over}
 use Rattle.pattern.specs.declared.counter.Counter.{Counter}
 use Rattle.pattern.specs.declared.counter.Fed.the-variants.{Counted}
@@ -112,12 +115,12 @@ CountsErrors =
 abbrev pub OwnOutput : Type 0
 OwnOutput =
     (p r n : ℕ) (pieces : List (List ℕ)) → registered p r ≡ true → (r ≡ 0 → ⊥)
-    → joined pieces ≡ bytes p (secondTap p) n r → AllShort pieces → 8 * n - p ≤ mostBits
+    → joined pieces ≡ bytes p (secondTap p) n r → AllShort pieces → 8 * n - p ≤ mostCounted
     → (c : Counter) × (AllFed (fresh p) pieces c × (c .errors ≡ 0))
 
 abbrev pub LosesNothing : Type 0
 LosesNothing =
-    (n : ℕ) → n ≤ mostBits → (toUnsigned 64 (ofInt binary64 (pos n)) ≡ n) × HasValue (ofInt binary64 (pos n)) false n 1
+    (n : ℕ) → n ≤ mostCounted → (toUnsigned 64 (ofInt binary64 (pos n)) ≡ n) × HasValue (ofInt binary64 (pos n)) false n 1
 
 abbrev pub OneRounding : Type 0
-OneRounding = (a b : ℕ) → a ≤ mostBits → 0 < b → b ≤ mostBits → over a b ≡ round binary64 false a b
+OneRounding = (a b : ℕ) → a ≤ mostCounted → 0 < b → b ≤ mostCounted → over a b ≡ round binary64 false a b

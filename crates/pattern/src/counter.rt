@@ -1,14 +1,21 @@
 // The counter of errors: received bits fill its register, and from then on are compared.
 ghost use mathlib.Core.Path.{_≡_};
 ghost use Prim.Native.Nat.{_+_, _*_, _≤_, _<_, _^_};
-ghost use mathlib.Core.Bool.{_&&_};
-ghost use lib.Dec.{T, leb};
+ghost use lib.Dec.{T};
 ghost use lib.ListN.{length};
 ghost use Rattle.pattern.specs.Bits.{highest, bitsOf};
-ghost use Rattle.pattern.specs.Refusal.{pattern, secondTap, mostBytes, mostBits};
-ghost use Rattle.pattern.specs.Counting.{fedBits, counted, freshAnswer, feedAnswer};
+ghost use Rattle.paper.specs.Numbers.{mostBytes};
+ghost use Rattle.pattern.specs.Patterns.{pattern, secondTap};
+ghost use Rattle.pattern.specs.Counting.{fedBits, freshAnswer, feedAnswer};
 ghost use Rattle.pattern.specs.Private.{Taps, Steady, Filling, Comparing};
+use crate::range::in_range_at;
 use crate::sequence;
+use paper::ALL_ZERO;
+use paper::MOST_BYTES;
+use paper::MOST_COUNTED;
+use paper::OUTSIDE;
+use paper::PAST_COUNT;
+use paper::UNFIT;
 
 // The pattern's number is its length. The bits that came, up to that many, stand low in the register, the oldest highest.
 pub struct Counter {
@@ -92,51 +99,6 @@ fn feed_bytes(c: Counter, l: u64, t: u64, piece: &[u8]) -> Counter
     d
 }
 
-fn sums_in_range(bits: u64, errors: u64) -> bool
-    ensures { λ r. ⌜ r ≡ leb errors bits && leb bits mostBits ⌝ }
-{
-    if errors > bits {
-        return false;
-    }
-    bits <= 9007199254740991
-}
-
-fn in_range_at(c: Counter, l: u64) -> bool
-    requires { ⌜ (c .pattern ≡ l) × T (pattern l) ⌝ }
-    ensures { λ r. ⌜ r ≡ counted c ⌝ }
-{
-    let bits = c.bits;
-    if c.filled > l {
-        return false;
-    }
-    if c.register >= 1 << c.filled {
-        return false;
-    }
-    if c.filled == l {
-        if c.register == 0 {
-            return false;
-        }
-        return sums_in_range(bits, c.errors);
-    }
-    if bits > 0 {
-        return false;
-    }
-    sums_in_range(bits, c.errors)
-}
-
-pub(crate) fn in_range(c: Counter) -> bool
-    ensures { λ r. ⌜ r ≡ counted c ⌝ }
-{
-    let pattern = c.pattern;
-    if pattern == 11 {
-        return in_range_at(c, 11);
-    }
-    if pattern == 31 {
-        return in_range_at(c, 31);
-    }
-    false
-}
-
 // The answer to a piece that is short enough, at the taps of the counter's pattern.
 fn feed_at(c: Counter, l: u64, t: u64, piece: &[u8]) -> Fed
     requires { ⌜ (c .pattern ≡ l) × T (pattern l) × (t ≡ secondTap l) × (length (now piece) ≤ mostBytes) ⌝ }
@@ -145,19 +107,19 @@ fn feed_at(c: Counter, l: u64, t: u64, piece: &[u8]) -> Fed
     if in_range_at(c, l) {
         let all = piece.len() as u64 * 8;
         let room = l - c.filled;
-        if c.bits + all > 9007199254740991 + room {
-            return Fed::Refused(20);
+        if c.bits + all > MOST_COUNTED + room {
+            return Fed::Refused(PAST_COUNT);
         }
         let d = feed_bytes(c, l, t, piece);
         // A full register is zero now exactly where it was when it was filled.
         if d.filled == l {
             if d.register == 0 {
-                return Fed::Refused(18);
+                return Fed::Refused(ALL_ZERO);
             }
         }
         return Fed::Counted(d);
     }
-    Fed::Refused(11)
+    Fed::Refused(OUTSIDE)
 }
 
 impl Counter {
@@ -167,7 +129,7 @@ impl Counter {
     {
         if pattern != 11 {
             if pattern != 31 {
-                return Opened::Refused(11);
+                return Opened::Refused(OUTSIDE);
             }
         }
         Opened::Fresh(Counter {
@@ -185,8 +147,8 @@ impl Counter {
         ensures { λ r. ⌜ r ≡ feedAnswer self (now (piece .entry)) ⌝ }
     {
         let pattern = self.pattern;
-        if piece.len() > 65536 {
-            return Fed::Refused(12);
+        if piece.len() > MOST_BYTES {
+            return Fed::Refused(UNFIT);
         }
         if pattern == 11 {
             return feed_at(self, 11, 9, piece);
@@ -194,6 +156,6 @@ impl Counter {
         if pattern == 31 {
             return feed_at(self, 31, 28, piece);
         }
-        Fed::Refused(11)
+        Fed::Refused(OUTSIDE)
     }
 }

@@ -5,6 +5,10 @@ ghost use lib.ListN.{length};
 ghost use Rattle.pattern.specs.Sequence.{onward, bytes};
 ghost use Rattle.pattern.specs.Generation.{registered, startAnswer, Fills};
 use crate::sequence;
+use paper::ALL_ZERO;
+use paper::MOST_BYTES;
+use paper::OUTSIDE;
+use paper::UNFIT;
 
 // The pattern's number is its length, 11 or 31. The register holds its last bits, the oldest highest.
 pub struct Generator {
@@ -58,11 +62,11 @@ impl Generator {
     {
         if in_range(pattern, register) {
             if register == 0 {
-                return Started::Refused(18);
+                return Started::Refused(ALL_ZERO);
             }
             return Started::Ready(Generator { pattern, register });
         }
-        Started::Refused(11)
+        Started::Refused(OUTSIDE)
     }
 
     // 12: more than 65,536 bytes; 11, 18: as at the start. Otherwise every byte of `out` is the pattern's, the first bit highest,
@@ -72,12 +76,12 @@ impl Generator {
     {
         let pattern = self.pattern;
         let register = self.register;
-        if out.len() > 65536 {
-            return Filled::Refused(12);
+        if out.len() > MOST_BYTES {
+            return Filled::Refused(UNFIT);
         }
         if in_range(pattern, register) {
             if register == 0 {
-                return Filled::Refused(18);
+                return Filled::Refused(ALL_ZERO);
             }
             if pattern == 11 {
                 let q = fill_bytes(register, 11, 9, out);
@@ -92,6 +96,6 @@ impl Generator {
                 register: q,
             });
         }
-        Filled::Refused(11)
+        Filled::Refused(OUTSIDE)
     }
 }

@@ -1,6 +1,7 @@
 // Test patterns: the generator, the counter of errors and its report.
 mod counter;
 mod generator;
+mod range;
 mod report;
 mod sequence;
 

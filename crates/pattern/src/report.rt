@@ -1,8 +1,8 @@
 // The counter's report: bits compared, errors, and how often they came.
 ghost use mathlib.Core.Path.{_≡_};
 ghost use Rattle.pattern.specs.Reporting.{reportAnswer};
-use crate::counter;
 use crate::counter::Counter;
+use crate::range;
 
 pub enum Report {
     // Errors were found: their ratio to the bits.
@@ -27,9 +27,9 @@ impl Counter {
     {
         let bits = self.bits;
         let errors = self.errors;
-        if counter::in_range(self) {
+        if range::in_range(self) {
             if bits == 0 {
-                return Report::Refused(19);
+                return Report::Refused(paper::NOTHING_COMPARED);
             }
             if errors == 0 {
                 return Report::Ceiling {
@@ -44,6 +44,6 @@ impl Counter {
                 ratio: (errors as f64) / (bits as f64),
             };
         }
-        Report::Refused(11)
+        Report::Refused(paper::OUTSIDE)
     }
 }

@@ -4,7 +4,7 @@
 -- │ is-byte-table   │ a list of 2,048 that passes it at each place is a ByteTable  │
 -- │ one-byte-table  │ there is no second one                                       │
 -- └─────────────────┴──────────────────────────────────────────────────────────────┘
-use mathlib.Core.Path.{_≡_, refl, sym, ap, ap₂, _∙_, subst}
+use mathlib.Core.Path.{_≡_, sym, ap, ap₂, _∙_, subst}
 use mathlib.Core.Bool.{Bool}
 use mathlib.Core.List.{List}
 use Prim.Native.Nat.{ℕ, _+_, _*_, _/_, _%_, _^_, _<_}
@@ -17,6 +17,7 @@ use lib.Seq.{ext-getD}
 use Rattle.laws.proofs.Computed.{every, at}
 use Rattle.poly.specs.Poly.{rem}
 use Rattle.poly.specs.Bytes.{ByteTable}
+use Rattle.poly.specs.Claims.{OneByteTable}
 
 unfoldable pub is-byte : ℕ → ℕ → Bool
 is-byte i x = eqb x (rem 63 (i % 256 * 2 ^ (i / 256 * 8)))
@@ -31,7 +32,7 @@ is-byte-table t len test = record { size = len; right = λ k b hk hb. right k b 
         eqb→eq (getD t i 0) (rem 63 (i % 256 * 2 ^ (i / 256 * 8))) (at is-byte t test i (subst (λ (n : ℕ). i < n) (sym len) (omega arith)))
         ∙ ap₂ (λ (x y : ℕ). rem 63 (x * 2 ^ (y * 8))) (digits-mod k hb) (digits-div k hb)
 
-pub one-byte-table : (t u : List ℕ) → ByteTable t → ByteTable u → t ≡ u
+pub one-byte-table : OneByteTable
 one-byte-table t u p q = ext-getD 0 t u (p .size ∙ sym (q .size)) same
   where
     same : (i : ℕ) → i < length t → getD t i 0 ≡ getD u i 0

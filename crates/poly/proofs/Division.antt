@@ -1,30 +1,31 @@
 -- Long division is division: linear, and right in the textbook's sense.
--- ┌─────────────────┬──────────────────────────────────────────────────────────────┐
--- │ rem-lt          │ a remainder has 12 coefficients                              │
--- │ rem-xor         │ the remainder of a sum is the sum of the remainders          │
--- │ rem-small       │ 12 coefficients are their own remainder                      │
--- │ rem-more        │ leading zeros do not count                                   │
--- │ rem-shifted     │ g moved on leaves nothing                                    │
--- │ rem-low         │ coefficients past the k low ones do not count                │
--- │ times-lt        │ a multiple of g by j coefficients has j + 12                 │
--- │ rem-times       │ a multiple of g leaves nothing                               │
--- │ divide          │ v is a multiple of g plus the remainder                      │
--- │ one-remainder   │ whatever of 12 coefficients is left beside a multiple of g   │
--- │                 │ is the remainder                                             │
--- │ divisible→rem   │ what is divisible leaves 0                                   │
--- │ rem→divisible   │ what leaves 0 is divisible                                   │
--- └─────────────────┴──────────────────────────────────────────────────────────────┘
+-- ┌────────────────┬────────────────────────────────────────────────────────────┐
+-- │ rem-lt         │ a remainder has 12 coefficients                            │
+-- │ rem-xor        │ the remainder of a sum is the sum of the remainders        │
+-- │ rem-small      │ 12 coefficients are their own remainder                    │
+-- │ rem-more       │ leading zeros do not count                                 │
+-- │ rem-shifted    │ g moved on leaves nothing                                  │
+-- │ rem-low        │ coefficients past the k low ones do not count              │
+-- │ times-lt       │ a multiple of g by j coefficients has j + 12               │
+-- │ rem-times      │ a multiple of g leaves nothing                             │
+-- │ divide         │ v is a multiple of g plus the remainder                    │
+-- │ one-remainder  │ whatever of 12 coefficients is left beside a multiple of g │
+-- │                │ is the remainder                                           │
+-- │ leaves-nothing │ what is divisible leaves 0                                 │
+-- │ is-divisible   │ what leaves 0 is divisible                                 │
+-- └────────────────┴────────────────────────────────────────────────────────────┘
 use mathlib.Core.Path.{_≡_, refl, sym, ap, ap₂, _∙_, subst}
 use Prim.Native.Nat.{ℕ, zero, suc, _+_, _*_, _/_, _%_, _-_, _^_, _<_, _≤_}
 use native.Mathlib.Nat.{pow-suc, suc-add, div-add-mod', add-zero, mul-div-cancel, mul-mod-left, lt-of-lt-of-le, zero-lt-suc, zero-add, mul-assoc, add-comm}
 use native.Mathlib.Numerals.{add-one}
 use native.Mathlib.Omega.{arith}
 use lib.Arith.{lt-one, digits-div, digits-mod}
-use lib.Dec.{lit<, lit≤}
+use lib.Dec.{lit<}
 use lib.Pow.{pow-mono, shl-lt, field, mod-mod-pow}
 use lib.Bits.{bitXor, xor-shr, xor-zero-r, xor-self, xor-comm, xor-lt}
 use Rattle.laws.proofs.Xor.{bit-ind, bit-lt, xor-half, xor-odd, xor-digit, xor-four, bit-times}
 use Rattle.poly.specs.Poly.{g, times, Divisible, reduce, rem}
+use Rattle.poly.specs.Claims.{Divide, OneRemainder, RemXor, LeavesNothing, IsDivisible}
 
 -- the coefficient of x^12, which decides
 high-lt : (t : ℕ) → t < 8192 → t / 4096 < 2
@@ -52,7 +53,7 @@ rem-lt (suc k) v = reduce-lt (rem k (v / 2) * 2 + v % 2) (omega (arith, rem-lt k
 next-lt : (k v : ℕ) → rem k (v / 2) * 2 + v % 2 < 8192
 next-lt k v = omega (arith, rem-lt k (v / 2), bit-lt v)
 
-pub rem-xor : (k a b : ℕ) → rem k (bitXor a b) ≡ bitXor (rem k a) (rem k b)
+pub rem-xor : RemXor
 unfolding rem
 rem-xor zero a b = refl
 rem-xor (suc k) a b =
@@ -146,7 +147,7 @@ rem-times (suc j) q =
     (ap (rem (j + 12)) (mul-div-cancel (times j (q / 2) g) (zero-lt-suc 1)) ∙ rem-times j (q / 2))
     (mul-mod-left (times j (q / 2) g) 2)))
 
-pub divide : (j v : ℕ) → v < 2 ^ (j + 12) → (q : ℕ) × (bitXor (times j q g) (rem (j + 12) v) ≡ v)
+pub divide : Divide
 unfolding rem times
 divide zero v h = (0, rem-small 12 v h h)
 divide (suc j) v h = more (divide j (v / 2) (half-pow (j + 12) v (subst (λ (x : ℕ). v < 2 ^ x) (suc-add j 12) h)))
@@ -177,18 +178,18 @@ divide (suc j) v h = more (divide j (v / 2) (half-pow (j + 12) v (subst (λ (x :
           ∙ div-add-mod' v 2,
     )
 
-pub one-remainder : (j q r v : ℕ) → r < 4096 → bitXor (times j q g) r ≡ v → r ≡ rem (j + 12) v
+pub one-remainder : OneRemainder
 one-remainder j q r v h e =
     sym
     (ap (rem (j + 12)) (sym e)
     ∙ rem-xor (j + 12) (times j q g) r
     ∙ ap₂ bitXor (rem-times j q) (rem-small (j + 12) r (lt-of-lt-of-le {m = 2 ^ 12} h (pow-mono {i = 12} (omega arith))) h))
 
-pub divisible→rem : (j v : ℕ) → Divisible j v → rem (j + 12) v ≡ 0
-divisible→rem j v (q, e) = ap (rem (j + 12)) (sym e) ∙ rem-times j q
+pub leaves-nothing : LeavesNothing
+leaves-nothing j v (q, e) = ap (rem (j + 12)) (sym e) ∙ rem-times j q
 
-pub rem→divisible : (j v : ℕ) → v < 2 ^ (j + 12) → rem (j + 12) v ≡ 0 → Divisible j v
-rem→divisible j v h e = done (divide j v h)
+pub is-divisible : IsDivisible
+is-divisible j v h e = done (divide j v h)
   where
     done : (q : ℕ) × (bitXor (times j q g) (rem (j + 12) v) ≡ v) → Divisible j v
     done (q, p) = (q, sym (xor-zero-r (times j q g)) ∙ ap (bitXor (times j q g)) (sym e) ∙ p)

@@ -7,11 +7,11 @@
 -- │ byte-turn   │ a byte more of a word, from the lowest on                        │
 -- │ bytes-end   │ all eight of them                                                │
 -- └─────────────┴──────────────────────────────────────────────────────────────────┘
-use mathlib.Core.Path.{_≡_, refl, sym, ap, ap₂, _∙_}
+use mathlib.Core.Path.{_≡_, refl, sym, ap, _∙_}
 use Prim.Native.Nat.{ℕ, _+_, _-_, _*_, _/_, _%_, _^_, _<_, _≤_}
-use native.Mathlib.Nat.{mod-lt, mod-eq-of-lt, lt-of-lt-of-le, mul-assoc, zero-mul, one-mul, mul-div-cancel, zero-lt-suc, div-eq-of-lt}
+use native.Mathlib.Nat.{mod-lt, mod-eq-of-lt, lt-of-lt-of-le, mul-assoc, mul-div-cancel, zero-lt-suc, div-eq-of-lt}
 use native.Mathlib.Omega.{arith}
-use lib.Dec.{lit<, lit≤}
+use lib.Dec.{lit≤}
 use lib.Pow.{pow-pos, pow-add, mod-pow-add, shl-shr, shr-shr}
 use lib.Bits.{bitXor, xor-shifted, xor-comm, xor-shr, xor-zero-r}
 use Rattle.laws.proofs.Xor.{bit-ind}

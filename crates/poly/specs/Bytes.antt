@@ -7,8 +7,8 @@ use mathlib.Core.Path.{_≡_}
 use mathlib.Core.List.{List}
 use Prim.Native.Nat.{ℕ, _+_, _*_, _^_, _<_}
 use lib.ListN.{length, getD}
-use Rattle.poly.specs.Poly.{rem}
+use Rattle.poly.specs.Poly.{wordBits, rem}
 
 pub record ByteTable (t : List ℕ) : Type 0 where
   pub size : length t ≡ 2048
-  pub right : (k b : ℕ) → k < 8 → b < 256 → getD t (k * 256 + b) 0 ≡ rem 63 (b * 2 ^ (k * 8))
+  pub right : (k b : ℕ) → k < 8 → b < 256 → getD t (k * 256 + b) 0 ≡ rem wordBits (b * 2 ^ (k * 8))

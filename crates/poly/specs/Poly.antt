@@ -1,5 +1,6 @@
 -- Polynomials over two elements, held as numbers: bit k is the coefficient of x^k. Their sum is `bitXor`.
 -- ┌─────────────┬──────────────────────────────────────────────────────────────────┐
+-- │ wordBits    │ the coefficients of a word, x^62 to x^0                          │
 -- │ g           │ x^12 + x^10 + x^8 + x^5 + x^4 + x^3 + 1                          │
 -- │ times k q p │ the product of q, of k coefficients, and p                       │
 -- │ Divisible k │ is a multiple of g by a polynomial of k coefficients             │
@@ -9,6 +10,9 @@
 use mathlib.Core.Path.{_≡_}
 use Prim.Native.Nat.{ℕ, zero, suc, _+_, _*_, _/_, _%_}
 use lib.Bits.{bitXor}
+
+abbrev pub wordBits : ℕ
+wordBits = 63
 
 abbrev pub g : ℕ
 g = 0x1539

@@ -1,28 +1,29 @@
 -- The starred rows, proved: each result meets the contract, and the contract leaves one answer.
-use mathlib.Core.Path.{_≡_, refl, subst}
+use mathlib.Core.Path.{_≡_, refl, ap, subst}
 use mathlib.Core.Logic.{inl}
 use Prim.Native.Nat.{ℕ, _/_, _^_}
 use lib.Dec.{T, ltb, lit<, lit≤}
 use Rattle.poly.specs.Poly.{rem}
-use Rattle.poly.proofs.Division.{rem→divisible}
+use Rattle.poly.proofs.Division.{is-divisible}
 use Rattle.bch.specs.Code.{differing}
 use Rattle.bch.proofs.Built.{table}
 use Rattle.bch.proofs.Nearest as bch
-use Rattle.frame.specs.Word.{dataOf, Lawful, FrameOf}
-use Rattle.frame.specs.Answers.{Answer, answer}
-use Rattle.frame.specs.Reads.{Reads}
-use Rattle.frame.specs.declared.Making.the-variants.{Frame}
-use Rattle.frame.proofs.Maker.{makes-frame}
-use Rattle.frame.proofs.Demands.{one-answer, still-line}
-use Rattle.frame.proofs.OneAnswer.{one-making}
+use Rattle.frame.specs.Word.{dataEnd, dataOf, Lawful, FrameOf}
+use Rattle.reader.specs.Answers.{Answer, answer}
+use Rattle.reader.specs.Reads.{Reads}
+use Rattle.maker.specs.declared.Making.the-variants.{Frame}
+use Rattle.maker.proofs.Answered.{makes-frame}
+use Rattle.reader.proofs.Demands.{one-answer, still-line}
+use Rattle.maker.proofs.OneAnswer.{one-making}
 use Rattle.hier.specs.Symbols.{gap}
 use Rattle.hier.specs.Blocks.{blockOf}
 use Rattle.hier.specs.Inside.{nearOf, kindOf, solved}
+use Rattle.hier.specs.Calls.{codedNumber, numberOf}
 use Rattle.hier.specs.declared.Coded.the-variants.{Block, NotMade}
 use Rattle.hier.specs.declared.Reading.the-variants.{Word, NoBlock, Eighth}
 use Rattle.hier.proofs.Answers.{one-make, one-read, reads-at}
 use Rattle.bus.specs.Wires.{apart, inverted}
-use Rattle.bus.specs.Calls.{Starts, Sends}
+use Rattle.bus.specs.Calls.{Sends}
 use Rattle.bus.specs.declared.Bus.{Bus}
 use Rattle.bus.specs.declared.Driven.the-variants.{Now}
 use Rattle.bus.proofs.Answers.{one-start, one-send}
@@ -31,13 +32,13 @@ use Rattle.rows.specs.Rows.{makes, reads, sends, Rows}
 -- a word that leaves nothing and whose run bits are right is lawful
 lawful-0 : Lawful 0x0000400020001AB2
 unfolding rem
-lawful-0 = record { code = rem→divisible 51 0x0000400020001AB2 (lit< tt) refl; runs = record { at-16 = refl; at-33 = refl; at-50 = refl } }
+lawful-0 = record { code = is-divisible 51 0x0000400020001AB2 (lit< tt) refl; runs = record { at-16 = refl; at-33 = refl; at-50 = refl } }
 
 lawful-ones : Lawful 0x7FFFBFFFDFFFE54D
 unfolding rem
-lawful-ones = record { code = rem→divisible 51 0x7FFFBFFFDFFFE54D (lit< tt) refl; runs = record { at-16 = refl; at-33 = refl; at-50 = refl } }
+lawful-ones = record { code = is-divisible 51 0x7FFFBFFFDFFFE54D (lit< tt) refl; runs = record { at-16 = refl; at-33 = refl; at-50 = refl } }
 
-made : (d f : ℕ) → T (ltb d (2 ^ 48)) → FrameOf d f → makes d f
+made : (d f : ℕ) → T (ltb d dataEnd) → FrameOf d f → makes d f
 made d f h p m q = one-making d m (Frame f) q (makes-frame d f (lit< h) p)
 
 -- a bus of width 4 at rest
@@ -72,13 +73,10 @@ rows =
       all-ones = λ r q. still-line 0xFFFFFFFFFFFFFFFF (answer r) q .1 refl;
       block-0 = λ m q. one-make 0 m (Block 0x3333) q (record { number = refl; block = refl });
       block-127 = λ m q. one-make 127 m (Block 0x9ACA) q (record { number = refl; block = refl });
-      block-128 = λ m q. one-make 128 m NotMade q (record { number = refl; block = tt });
-      not-made-is-11 = refl;
+      block-128 = λ m q. ap codedNumber (one-make 128 m NotMade q (record { number = refl; block = tt }));
       one-bit = λ s q. one-read 0x3331 s (Word 0 1) q (reads-at 0x3331);
-      two-away = λ s q. one-read 0x3335 s NoBlock q (reads-at 0x3335);
-      no-block-is-15 = refl;
-      v-is-8 = λ s q. one-read 0x6653 s Eighth q (reads-at 0x6653);
-      eighth-is-16 = refl;
+      two-away = λ s q. ap numberOf (one-read 0x3335 s NoBlock q (reads-at 0x3335));
+      v-is-8 = λ s q. ap numberOf (one-read 0x6653 s Eighth q (reads-at 0x6653));
       bus-0011 = drives 0b0011 0b0011 0 (record { number = refl; state = refl });
       bus-0111 = drives 0b0111 0b1000 1 (record { number = refl; state = refl });
     }

@@ -1,8 +1,8 @@
 // Runs the rows of the paper's bench numbers, and the examples that users check by hand, through the calls.
-use frame::Flips;
-use frame::Making;
-use frame::Reading;
 use libc::STDOUT_FILENO;
+use maker::Making;
+use reader::Flips;
+use reader::Reading;
 
 fn say(text: &[u8]) {
     io::write_all(STDOUT_FILENO, text);
@@ -15,7 +15,7 @@ fn number(n: u64) {
 fn show_make(data: u64) {
     say(b"make ");
     io::print_hex(STDOUT_FILENO, data, 12);
-    match frame::make(data) {
+    match maker::make(data) {
         Making::Frame(f) => {
             say(b": frame ");
             io::print_hex(STDOUT_FILENO, f, 16);
@@ -44,7 +44,7 @@ fn show_flips(flips: Flips) {
 fn show_read(bits: u64) {
     say(b"read ");
     io::print_hex(STDOUT_FILENO, bits, 16);
-    match frame::read(bits) {
+    match reader::read(bits) {
         Reading::Word {
             data,
             flips,

@@ -18,7 +18,7 @@ use native.Mathlib.Nat.{zero-add, add-zero}
 use native.Mathlib.Omega.{arith}
 use lib.Dec.{eqb}
 use lib.ListN.{length}
-use Rattle.tally.specs.Refusals.{accepted, isVerdict, isFlag, every, lawful, framesIn}
+use Rattle.tally.specs.Ranges.{accepted, isVerdict, isFlag, every, lawful, framesIn}
 use Rattle.tally.specs.Counts.{times, wrongPads, counts, after}
 use Rattle.tally.specs.Claims.{InPieces, FromFresh, CountsEach}
 use Rattle.tally.specs.declared.Tally.{Tally}

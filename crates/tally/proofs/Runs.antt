@@ -9,11 +9,12 @@ use mathlib.Core.Bool.{Bool, true, false}
 use mathlib.Core.List.{List, [], _∷_, _++_}
 use Prim.Native.Nat.{ℕ}
 use native.Mathlib.Omega.{arith}
-use lib.Dec.{eqb, ltb}
+use lib.Dec.{eqb}
 use lib.ListN.{length}
-use Rattle.tally.specs.Refusals.{outside, mostFrames, lawful, framesIn, inRange}
+use Rattle.paper.specs.Numbers.{outside}
+use Rattle.tally.specs.Ranges.{lawful, inRange}
 use Rattle.tally.specs.Counts.{after}
-use Rattle.tally.specs.Adds.{numberOf, Adds}
+use Rattle.tally.specs.Adds.{numberOf, Adds, overfull}
 use Rattle.tally.specs.Claims.{Call, verdictsIn, flagsIn, Run, none, accepted, refused, CountsRun, SomeRun, OneRun, ReachesInRange, OutsideIsNew}
 use Rattle.tally.specs.declared.Tally.{Tally}
 use Rattle.tally.specs.declared.Added.{Added}
@@ -41,7 +42,7 @@ pub reaches-in-range : ReachesInRange
 reaches-in-range cs vs ps u r = run-in-range r refl
 
 pub outside-is-new : OutsideIsNew
-outside-is-new cs vs ps ws qs u r e = by (eqb (length ws) (length qs)) (inRange u) (lawful ws qs) (ltb mostFrames (framesIn (after u ws qs))) (run-in-range r refl) e
+outside-is-new cs vs ps ws qs u r e = by (eqb (length ws) (length qs)) (inRange u) (lawful ws qs) (overfull u ws qs) (run-in-range r refl) e
   where
     by : (a b c d : Bool) → b ≡ true → tests a b c d ≡ outside → c ≡ false
     by a b false d h e = refl

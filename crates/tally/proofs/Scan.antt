@@ -15,7 +15,7 @@ use native.Mathlib.Omega.{arith}
 use lib.Dec.{eqb}
 use lib.ListN.{length, getD, drop}
 use lib.Seq.{drop-cons, drop-length}
-use Rattle.tally.specs.Refusals.{accepted, isVerdict, isFlag, every, lawful, framesIn}
+use Rattle.tally.specs.Ranges.{accepted, isVerdict, isFlag, every, lawful, framesIn}
 use Rattle.tally.specs.Counts.{wrongPads, fresh, counts, after}
 use Rattle.tally.specs.declared.Tally.{Tally}
 use Rattle.laws.proofs.Truth.{two}

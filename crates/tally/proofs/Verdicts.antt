@@ -19,7 +19,7 @@ use native.Mathlib.Omega.{arith}
 use borrow.Author.Tests.{ne-eqb, eqb-true}
 use lib.Dec.{eqb}
 use lib.ListN.{length, getD}
-use Rattle.tally.specs.Refusals.{accepted, isVerdict, isFlag, every}
+use Rattle.tally.specs.Ranges.{accepted, isVerdict, isFlag, every}
 
 pub below-three : (P : ℕ → Type 0) → P 0 → P 1 → P 2 → (v : ℕ) → v ≤ 2 → P v
 below-three P p q r zero h = p

@@ -24,7 +24,8 @@ use mathlib.Core.Bool.{true, false}
 use mathlib.Core.List.{List, [], _∷_, _++_}
 use Prim.Native.Nat.{ℕ, _+_}
 use lib.ListN.{length}
-use Rattle.tally.specs.Refusals.{outside, every, isVerdict, lawful, framesIn, inRange}
+use Rattle.paper.specs.Numbers.{outside}
+use Rattle.tally.specs.Ranges.{every, isVerdict, lawful, framesIn, inRange}
 use Rattle.tally.specs.Counts.{fresh, counts, after}
 use Rattle.tally.specs.Adds.{numberOf, refusal, Adds}
 use Rattle.tally.specs.declared.Tally.{Tally}

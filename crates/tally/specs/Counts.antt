@@ -12,7 +12,8 @@ use mathlib.Core.Bool.{cond, _&&_}
 use mathlib.Core.List.{List, [], _∷_}
 use Prim.Native.Nat.{ℕ, _+_}
 use lib.Dec.{eqb}
-use Rattle.tally.specs.Refusals.{accepted}
+use Rattle.paper.specs.Numbers.{noWord, runBroken}
+use Rattle.tally.specs.Ranges.{accepted}
 use Rattle.tally.specs.declared.Tally.{Tally}
 
 unfoldable pub times : ℕ → List ℕ → ℕ
@@ -33,8 +34,8 @@ counts vs ps =
       clean = times 0 vs;
       one = times 1 vs;
       two = times 2 vs;
-      «no_word» = times 13 vs;
-      «run_broken» = times 14 vs;
+      «no_word» = times noWord vs;
+      «run_broken» = times runBroken vs;
       «pad_wrong» = wrongPads vs ps;
     }
 

@@ -1,4 +1,4 @@
-pub mod Refusals
+pub mod Ranges
 pub mod Counts
 pub mod Adds
 pub mod Claims

@@ -5,9 +5,13 @@ ghost use mathlib.Core.List.{[], _∷_};
 ghost use Prim.Native.Nat.{_+_, _-_, _^_, _<_, _≤_};
 ghost use lib.Dec.{eqb};
 ghost use lib.ListN.{length};
-ghost use Rattle.tally.specs.Refusals.{mostFrames, accepted, isVerdict, isFlag, lawful, framesIn, inRange};
+ghost use Rattle.paper.specs.Numbers.{mostCounted};
+ghost use Rattle.tally.specs.Ranges.{accepted, isVerdict, isFlag, lawful, framesIn, inRange};
 ghost use Rattle.tally.specs.Counts.{counts, both, after};
 use crate::Tally;
+use paper::MOST_COUNTED;
+use paper::NO_WORD;
+use paper::RUN_BROKEN;
 
 pub(crate) enum Counted {
     Counts(Tally),
@@ -18,24 +22,23 @@ pub(crate) enum Counted {
 pub(crate) fn in_range(t: Tally) -> bool
     ensures { λ r. ⌜ r ≡ inRange t ⌝ }
 {
-    let most = 9007199254740991;
-    if t.clean > most {
+    if t.clean > MOST_COUNTED {
         return false;
     }
-    if t.one > most {
+    if t.one > MOST_COUNTED {
         return false;
     }
-    if t.two > most {
+    if t.two > MOST_COUNTED {
         return false;
     }
-    if t.no_word > most {
+    if t.no_word > MOST_COUNTED {
         return false;
     }
-    if t.run_broken > most {
+    if t.run_broken > MOST_COUNTED {
         return false;
     }
     let accepted = t.clean + t.one + t.two;
-    if accepted + t.no_word + t.run_broken > most {
+    if accepted + t.no_word + t.run_broken > MOST_COUNTED {
         return false;
     }
     t.pad_wrong <= accepted
@@ -43,15 +46,15 @@ pub(crate) fn in_range(t: Tally) -> bool
 
 // How many frames may still be added.
 pub(crate) fn room(t: Tally) -> u64
-    requires { ⌜ framesIn t ≤ mostFrames ⌝ }
-    ensures { λ r. ⌜ r ≡ mostFrames - framesIn t ⌝ }
+    requires { ⌜ framesIn t ≤ mostCounted ⌝ }
+    ensures { λ r. ⌜ r ≡ mostCounted - framesIn t ⌝ }
 {
-    9007199254740991 - (t.clean + t.one + t.two + t.no_word + t.run_broken)
+    MOST_COUNTED - (t.clean + t.one + t.two + t.no_word + t.run_broken)
 }
 
 // Two tallies, count by count.
 pub(crate) fn sum(t: Tally, new: Tally) -> Tally
-    requires { ⌜ (framesIn t + framesIn new ≤ mostFrames) × (t .«pad_wrong» + new .«pad_wrong» ≤ mostFrames) ⌝ }
+    requires { ⌜ (framesIn t + framesIn new ≤ mostCounted) × (t .«pad_wrong» + new .«pad_wrong» ≤ mostCounted) ⌝ }
     ensures { λ r. ⌜ r ≡ both t new ⌝ }
 {
     Tally {
@@ -73,10 +76,10 @@ fn known(verdict: u8, pad: u8) -> bool
     if verdict <= 2 {
         return true;
     }
-    if verdict == 13 {
+    if verdict == NO_WORD {
         return true;
     }
-    verdict == 14
+    verdict == RUN_BROKEN
 }
 
 // 1 where two numbers are the same, 0 where not.
@@ -114,8 +117,8 @@ fn step(t: Tally, verdict: u8, pad: u8) -> Tally
         clean: t.clean,
         one: t.one + same(verdict, 1),
         two: t.two + same(verdict, 2),
-        no_word: t.no_word + same(verdict, 13),
-        run_broken: t.run_broken + same(verdict, 14),
+        no_word: t.no_word + same(verdict, NO_WORD),
+        run_broken: t.run_broken + same(verdict, RUN_BROKEN),
         pad_wrong,
     }
 }

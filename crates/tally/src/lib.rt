@@ -27,14 +27,14 @@ pub enum Added {
 }
 
 // The number of an answer: 0 where it is the next tally.
-pub fn number_of(a: Added) -> u64
+pub fn number_of(a: Added) -> u8
     ensures { λ n. ⌜ n ≡ numberOf a ⌝ }
 {
     match a {
         Added::Next(_) => 0,
-        Added::Unequal => 12,
-        Added::OutOfRange => 11,
-        Added::Full => 20,
+        Added::Unequal => paper::UNFIT,
+        Added::OutOfRange => paper::OUTSIDE,
+        Added::Full => paper::PAST_COUNT,
     }
 }
 
@@ -61,7 +61,7 @@ impl Tally {
         self.add_list(&verdicts, &pads)
     }
 
-    // 12: lists of unequal lengths; 11: no verdict, no flag, or a state out of its range; 20: more than 2^53 - 1 frames.
+    // 12: lists of unfit lengths; 11: no verdict, no flag, or a state out of its range; 20: more than 2^53 - 1 frames.
     pub fn add_list(self, verdicts: &[u8], pads: &[u8]) -> Added
         ensures { λ r. ⌜ Adds self (now (verdicts .entry)) (now (pads .entry)) r ⌝ }
     {

@@ -5,7 +5,7 @@ use native.Mathlib.Omega.{arith}
 use lib.Bits.{bitXor, xor-lt}
 use lib.Count.{ones-le}
 use lib.Dec.{ltb}
-use Rattle.bus.proofs.Apart.{count-apart}
+use Rattle.bus.proofs.Apart.{count-is-apart}
 use Rattle.bus.proofs.over_half.Statement.{statement}
 use Rattle.bus.proofs.over_half.Tie as tie
 
@@ -15,7 +15,7 @@ mul-result c = let a = c .args in
 
 returns : tie.Need-returns
 returns c = let a = c .args in
-    ap (λ (n : ℕ). ltb (a .width) (2 * n)) (count-apart (a .width) (a .present) (a .data) (c .pre .1 .0) (c .pre .1 .1))
+    ap (λ (n : ℕ). ltb (a .width) (2 * n)) (count-is-apart (a .width) (a .present) (a .data) (c .pre .1 .0) (c .pre .1 .1))
 
 pub over-half-spec : {M : Type 1} → statement M
 over-half-spec = tie.close (tie.spec mul-result returns)

@@ -4,7 +4,7 @@ use mathlib.Core.Bool.{true}
 use borrow.Author.Needs.{needs}
 use borrow.Author.Tests.{not-true, not-false}
 use Rattle.bus.specs.Rule.{lawful, undone}
-use Rattle.bus.specs.Calls.{row11}
+use Rattle.paper.specs.Numbers.{outside, unless}
 use Rattle.bus.proofs.Range.{in-range, undone-set}
 use Rattle.bus.proofs.receive.Statement.{statement}
 use Rattle.bus.proofs.receive.Tie as tie
@@ -13,14 +13,14 @@ in-range-requires : tie.Need-in-range-requires
 in-range-requires c κs = search needs
 
 returns : tie.Need-returns
-returns c = record { number = ap row11 (sym (not-true _ (c .if1 .taken)) ∙ c .before .in-range .ensures); content = tt }
+returns c = record { number = ap (unless outside) (sym (not-true _ (c .if1 .taken)) ∙ c .before .in-range .ensures); content = tt }
 
 right : (c : tie.Else1) → let a = c .before .before .args in lawful (a .width) (a .wires) (a .invert) ≡ true
 right c = sym (c .before .in-range .ensures) ∙ not-false _ (c .if1 .left)
 
 returns-2 : tie.Need-returns-2
 returns-2 c = let a = c .before .before .before .args in
-    record { number = ap row11 (sym (right (c .before))); content = sym (ap (undone (a .width) (a .wires)) (c .if2 .taken)) }
+    record { number = ap (unless outside) (sym (right (c .before))); content = sym (ap (undone (a .width) (a .wires)) (c .if2 .taken)) }
 
 turned-requires : tie.Need-turned-requires
 turned-requires c κs = let a = c .before .before .before .args in
@@ -30,7 +30,7 @@ turned-requires c κs = let a = c .before .before .before .args in
 returns-3 : tie.Need-returns-3
 returns-3 c = let a = c .before .before .before .before .args in
     record {
-      number = ap row11 (sym (right (c .before .before)));
+      number = ap (unless outside) (sym (right (c .before .before)));
       content = c .turned .ensures ∙ sym (undone-set (a .width) (a .wires) (a .invert) (c .before .if2 .left));
     }
 

@@ -2,10 +2,10 @@
 use mathlib.Core.Path.{_≡_, refl, subst}
 use mathlib.Core.Logic.{inl, inr}
 use borrow.Author.Needs.{needs}
-use Rattle.frame.specs.Answers.{refused, answer}
-use Rattle.frame.specs.Reads.{Reads}
-use Rattle.frame.specs.declared.Reading.{Reading}
-use Rattle.frame.specs.declared.Reading.the-variants.{Word, NoWord, RunBroken}
+use Rattle.reader.specs.Answers.{refused, answer}
+use Rattle.reader.specs.Reads.{Reads}
+use Rattle.reader.specs.declared.Reading.{Reading}
+use Rattle.reader.specs.declared.Reading.the-variants.{Word, NoWord, RunBroken}
 use Rattle.host.proofs.Buffer.{small}
 use Rattle.host.proofs.lks_frame_read.Statement.{statement}
 use Rattle.host.proofs.lks_frame_read.Tie as tie

@@ -1,4 +1,4 @@
--- `host::lks_frames_read` meets its contract: that of `frame::read_bytes`, with its answer's number.
+-- `host::lks_frames_read` meets its contract: that of `reader::read_bytes`, with its answer's number.
 use borrow.Author.Needs.{needs}
 use Rattle.host.proofs.lks_frames_read.Statement.{statement}
 use Rattle.host.proofs.lks_frames_read.Tie as tie
@@ -9,6 +9,9 @@ read-bytes-requires c κs = search needs
 number-of-requires : tie.Need-number-of-requires
 number-of-requires c κs = search needs
 
+wide-requires : tie.Need-wide-requires
+wide-requires c κs = search needs
+
 same-length : tie.Need-same-length
 same-length c = search needs
 
@@ -16,8 +19,8 @@ same-length-2 : tie.Need-same-length-2
 same-length-2 c = search needs
 
 returns : tie.Need-returns
-returns c = rw (c .number-of .ensures) (c .before .before .before .before .before .read-bytes .ensures)
+returns c = rw (c .wide .ensures) (rw (c .before .number-of .ensures) (c .before .before .before .before .before .before .read-bytes .ensures))
 
 pub lks-frames-read-spec : {M : Type 1} → statement M
 lks-frames-read-spec =
-    tie.close (tie.spec read-bytes-requires number-of-requires same-length same-length-2 returns)
+    tie.close (tie.spec read-bytes-requires number-of-requires wide-requires same-length same-length-2 returns)

@@ -1,16 +1,16 @@
 -- `lane::count` meets its contract: the tally's answer to what was seen.
-use mathlib.Core.Path.{_≡_, refl, sym, ap, subst, _∙_}
+use mathlib.Core.Path.{_≡_, refl, sym, subst}
 use mathlib.Core.Logic.{inl}
-use Prim.Native.Nat.{ℕ}
 use native.Mathlib.Omega.{arith}
 use borrow.Author.Needs.{needs}
 use lib.ListN.{take}
 use lib.Seq.{length-take-le}
-use Rattle.tally.specs.Adds.{Adds}
+use Rattle.tally.specs.Adds.{numberOf as tallyNumber, Adds}
 use Rattle.tally.specs.declared.Added.{Added}
-use Rattle.tally.specs.declared.Added.the-variants.{Next as Taken-on, Unequal, OutOfRange as Outside, Full as Past}
-use Rattle.lane.specs.declared.Totals.{Totals}
-use Rattle.lane.specs.declared.Counted.the-variants.{Next, TooLong, OutOfRange, Full}
+use Rattle.tally.specs.declared.Added.the-variants.{Unequal, OutOfRange as Outside, Full as Past}
+use Rattle.lane.specs.Counts.{numberOf, Counts}
+use Rattle.lane.specs.declared.Counted.{Counted}
+use Rattle.lane.specs.declared.Counted.the-variants.{TooLong, OutOfRange, Full}
 use Rattle.lane.proofs.Piece.{counts-next, counts-refuse, few-frames}
 use Rattle.lane.proofs.count.Statement.{statement}
 use Rattle.lane.proofs.count.Tie as tie
@@ -63,26 +63,21 @@ returns-2 c =
     let s = a .before .before .before in
     counts-next _ _ _ _ _ (s .before .before .before .if1 .left) (s .see .ensures) _ _ (adds a _ (c .before .before .u .given .1)) (c .with-frames .ensures)
 
-returns-3 : tie.Need-returns-3
-returns-3 c =
-    let a = c .before .before in
+-- a refusal of the tally is the count's
+refuses : (a : tie.After-add-list) (r : Added) (q : Counted) → a .add-list .result ≡ r → numberOf q ≡ tallyNumber r → (numberOf q ≡ 0 → ⊥)
+    → Counts (a .before .before .before .before .before .before .before .before .args .t) (a .before .before .before .before .before .before .before .before .args .bytes .now) q
+refuses a r q e n never =
     let s = a .before .before .before in
-    counts-refuse _ _ _ _ _ (s .before .before .before .if1 .left) (s .see .ensures) Unequal TooLong (adds a _ (c .enum-told .given .1)) refl
-    (λ w e. absurd (let z : _≡_ {A = ℕ} 0 1 = cc in omega arith))
+    counts-refuse _ _ _ _ _ (s .before .before .before .if1 .left) (s .see .ensures) r q (adds a r e) n never
+
+returns-3 : tie.Need-returns-3
+returns-3 c = refuses (c .before .before) Unequal TooLong (c .enum-told .given .1) refl (λ e. absurd (omega arith))
 
 returns-4 : tie.Need-returns-4
-returns-4 c =
-    let a = c .before .before in
-    let s = a .before .before .before in
-    counts-refuse _ _ _ _ _ (s .before .before .before .if1 .left) (s .see .ensures) Outside OutOfRange (adds a _ (c .enum-told2 .given .1)) refl
-    (λ w e. absurd (let z : _≡_ {A = ℕ} 0 1 = cc in omega arith))
+returns-4 c = refuses (c .before .before) Outside OutOfRange (c .enum-told2 .given .1) refl (λ e. absurd (omega arith))
 
 returns-5 : tie.Need-returns-5
-returns-5 c =
-    let a = c .before .before in
-    let s = a .before .before .before in
-    counts-refuse _ _ _ _ _ (s .before .before .before .if1 .left) (s .see .ensures) Past Full (adds a _ (c .enum-told3 .given .1)) refl
-    (λ w e. absurd (let z : _≡_ {A = ℕ} 0 1 = cc in omega arith))
+returns-5 c = refuses (c .before .before) Past Full (c .enum-told3 .given .1) refl (λ e. absurd (omega arith))
 
 pub count-spec : {M : Type 1} → statement M
 count-spec =

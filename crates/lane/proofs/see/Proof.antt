@@ -1,10 +1,8 @@
 -- `lane::see` meets its contract, by `seen-in`.
-use mathlib.Core.Path.{_≡_, sym, ap, subst, _∙_}
-use Prim.Native.Nat.{ℕ, min, _/_, _≤_}
-use native.Mathlib.Nat.{min-le-right}
+use mathlib.Core.Path.{_≡_, sym}
+use Prim.Native.Nat.{ℕ, _/_, _≤_}
 use native.Mathlib.Omega.{arith}
 use borrow.Author.Needs.{needs}
-use lib.ListN.{length}
 use lib.Seq.{length-take-le}
 use Rattle.lane.proofs.Piece.{seen-in}
 use Rattle.lane.proofs.see.Statement.{statement}

@@ -1,4 +1,4 @@
--- `measured::measured_make_list` meets its contract: that of `frame::make_list`, with its answer's number.
+-- `measured::measured_make_list` meets its contract: that of `maker::make_list`, with its answer's number.
 use borrow.Author.Needs.{needs}
 use Rattle.measured.proofs.measured_make_list.Statement.{statement}
 use Rattle.measured.proofs.measured_make_list.Tie as tie

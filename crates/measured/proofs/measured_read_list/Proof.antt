@@ -1,4 +1,4 @@
--- `measured::measured_read_list` meets its contract: that of `frame::read_list`, with its answer's number.
+-- `measured::measured_read_list` meets its contract: that of `reader::read_list`, with its answer's number.
 use borrow.Author.Needs.{needs}
 use Rattle.measured.proofs.measured_read_list.Statement.{statement}
 use Rattle.measured.proofs.measured_read_list.Tie as tie

@@ -1,4 +1,4 @@
--- `measured::measured_read_list_pads` meets its contract: that of `frame::read_list_pads`, with its answer's number.
+-- `measured::measured_read_list_pads` meets its contract: that of `reader::read_list_pads`, with its answer's number.
 use borrow.Author.Needs.{needs}
 use Rattle.measured.proofs.measured_read_list_pads.Statement.{statement}
 use Rattle.measured.proofs.measured_read_list_pads.Tie as tie

@@ -1,7 +1,7 @@
 -- `octets::numbers` meets its contract: after i turns the first i numbers stand at the front.
 use mathlib.Core.Path.{_≡_, refl, sym, ap, ap₂, subst, _∙_}
 use mathlib.Core.List.{List}
-use Prim.Native.Nat.{ℕ, min, _+_, _-_, _*_, _/_, _≤_, _<_}
+use Prim.Native.Nat.{ℕ, min, _-_, _*_, _/_, _≤_, _<_}
 use native.Mathlib.Nat.{min-le-left, min-le-right, zero-add}
 use native.Mathlib.Omega.{arith}
 use borrow.Author.Needs.{needs}

@@ -1,7 +1,7 @@
 -- `poly::remainder` meets its contract: after k turns what is left, k positions on, has the remainder of v. After 51 it has 12
 -- coefficients, which are their own remainder.
 use mathlib.Core.Path.{_≡_, sym, ap, _∙_}
-use Prim.Native.Nat.{ℕ, _+_, _-_, _*_, _/_, _%_, _^_, _≤_, _<_}
+use Prim.Native.Nat.{ℕ, _-_, _/_, _%_, _^_, _≤_, _<_}
 use native.Mathlib.Nat.{div-one, mod-lt}
 use native.Mathlib.Omega.{arith}
 use lib.Pow.{pow-pos}

@@ -6,7 +6,8 @@ use native.Mathlib.Omega.{arith}
 use borrow.Author.Needs.{needs}
 use lib.ListN.{length}
 use Rattle.pattern.specs.Bits.{bitsOf}
-use Rattle.pattern.specs.Refusal.{mostBits, secondTap}
+use Rattle.paper.specs.Numbers.{mostCounted}
+use Rattle.pattern.specs.Patterns.{secondTap}
 use Rattle.pattern.specs.Counting.{fedBits, counted, fed, feedAnswer}
 use Rattle.pattern.specs.Private.{Steady}
 use Rattle.pattern.specs.declared.counter.Counter.{Counter}
@@ -39,7 +40,7 @@ returns : tie.Need-returns
 returns c =
     let e = c .before .before .before in
     let s = e .before .before .before in
-    let h = subst (λ (n : ℕ). mostBits + (n - s .args .c .filled) < s .args .c .bits + length (s .args .piece .now) * 8) (sym (s .pre .0)) (c .if2 .taken) in
+    let h = subst (λ (n : ℕ). mostCounted + (n - s .args .c .filled) < s .args .c .bits + length (s .args .piece .now) * 8) (sym (s .pre .0)) (c .if2 .taken) in
     refuse-past _ (s .args .piece .now) (s .pre .3) (inside e) h
 
 feed-bytes-requires : tie.Need-feed-bytes-requires
@@ -64,8 +65,8 @@ module _ (c : tie.After-feed-bytes) where
       c .feed-bytes .ensures
       ∙ ap₂ (λ (l t : ℕ). fedBits l t self (bitsOf (start .args .piece .now))) (sym (start .pre .0)) (start .pre .2 ∙ ap secondTap (sym (start .pre .0)))
 
-  room : self .bits + length (start .args .piece .now) * 8 ≤ mostBits + (self .pattern - self .filled)
-  room = subst (λ (n : ℕ). self .bits + length (start .args .piece .now) * 8 ≤ mostBits + (n - self .filled)) (sym (start .pre .0)) (c .before .if2 .left)
+  room : self .bits + length (start .args .piece .now) * 8 ≤ mostCounted + (self .pattern - self .filled)
+  room = subst (λ (n : ℕ). self .bits + length (start .args .piece .now) * 8 ≤ mostCounted + (n - self .filled)) (sym (start .pre .0)) (c .before .if2 .left)
 
   accepted : (c .feed-bytes .result .filled ≡ start .args .l → c .feed-bytes .result .register ≡ 0 → ⊥)
       → Counted (c .feed-bytes .result) ≡ feedAnswer self (start .args .piece .now)

@@ -7,7 +7,8 @@ use native.Mathlib.Omega.{arith}
 use borrow.Author.Needs.{needs}
 use borrow.Author.Tests.{not-true, not-false, leb-true}
 use lib.Dec.{leb}
-use Rattle.tally.specs.Refusals.{mostFrames, lawful, acceptedIn, framesIn, inRange}
+use Rattle.paper.specs.Numbers.{mostCounted}
+use Rattle.tally.specs.Ranges.{lawful, acceptedIn, framesIn, inRange}
 use Rattle.tally.specs.Counts.{counts, both}
 use Rattle.tally.specs.Adds.{Adds}
 use Rattle.tally.specs.declared.Tally.{Tally}
@@ -72,9 +73,9 @@ module _ (c : tie.After-known-told) where
   lists : (lawful vs ps ≡ true) × (c .before .new .given .0 .0 ≡ counts vs ps)
   lists = counted (lawful vs ps) _ _ (sym (c .before .new .given .1) ∙ c .before .before .before .count .ensures)
 
-  bounds : (framesIn self ≤ mostFrames) × (self .«pad_wrong» ≤ acceptedIn self)
+  bounds : (framesIn self ≤ mostCounted) × (self .«pad_wrong» ≤ acceptedIn self)
   bounds =
-      let r = two (leb (framesIn self) mostFrames) (leb (self .«pad_wrong») (acceptedIn self)) range in
+      let r = two (leb (framesIn self) mostCounted) (leb (self .«pad_wrong») (acceptedIn self)) range in
       (leb-true _ _ (r .0), leb-true _ _ (r .1))
 
 room-requires : tie.Need-room-requires
@@ -90,7 +91,7 @@ sum-requires : tie.Need-sum-requires
 sum-requires c κs =
     let k = c .before .before in
     let n = each (vs k) (ps k) (lists k .0) in
-    subst (λ (u : Tally). (framesIn (self k) + framesIn u ≤ mostFrames) × (self k .«pad_wrong» + u .«pad_wrong» ≤ mostFrames)) (sym (lists k .1))
+    subst (λ (u : Tally). (framesIn (self k) + framesIn u ≤ mostCounted) × (self k .«pad_wrong» + u .«pad_wrong» ≤ mostCounted)) (sym (lists k .1))
     (omega (arith, n, c .before .room .ensures, bounds k .0), omega (arith, n, c .before .room .ensures, bounds k, wrong-few (vs k) (ps k)))
 
 returns-5 : tie.Need-returns-5

@@ -6,7 +6,7 @@ use native.Mathlib.Omega.{arith}
 use borrow.Author.Needs.{needs}
 use borrow.Author.Tests.{not-true, not-false}
 use lib.ListN.{length, getD}
-use Rattle.tally.specs.Refusals.{isVerdict, isFlag, lawful}
+use Rattle.tally.specs.Ranges.{isVerdict, isFlag, lawful}
 use Rattle.tally.specs.Counts.{counts}
 use Rattle.tally.specs.declared.Tally.{Tally}
 use Rattle.tally.specs.declared.count.Counted.the-variants.{Counts, Unlawful}

@@ -6,16 +6,17 @@ use native.Mathlib.Omega.{arith}
 use borrow.Author.Needs.{needs}
 use borrow.Author.Tests.{le-leb, lt-leb}
 use lib.Dec.{leb}
-use Rattle.tally.specs.Refusals.{mostFrames, acceptedIn, framesIn, inRange}
+use Rattle.paper.specs.Numbers.{mostCounted}
+use Rattle.tally.specs.Ranges.{acceptedIn, framesIn, inRange}
 use Rattle.tally.specs.declared.Tally.{Tally}
 use Rattle.tally.proofs.count.in_range.Statement.{statement}
 use Rattle.tally.proofs.count.in_range.Tie as tie
 
-past : (t : Tally) → mostFrames < framesIn t → false ≡ inRange t
-past t h = simp (lt-leb (framesIn t) mostFrames h)
+past : (t : Tally) → mostCounted < framesIn t → false ≡ inRange t
+past t h = simp (lt-leb (framesIn t) mostCounted h)
 
-within : (t : Tally) → framesIn t ≤ mostFrames → leb (t .«pad_wrong») (acceptedIn t) ≡ inRange t
-within t h = simp (le-leb (framesIn t) mostFrames h)
+within : (t : Tally) → framesIn t ≤ mostCounted → leb (t .«pad_wrong») (acceptedIn t) ≡ inRange t
+within t h = simp (le-leb (framesIn t) mostCounted h)
 
 returns : tie.Need-returns
 returns c = past (c .before .before .args .t) (omega arith)

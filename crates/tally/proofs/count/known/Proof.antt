@@ -1,7 +1,7 @@
 -- Each return rewrites with the tests that led there.
 use mathlib.Core.Path.{_≡_, sym}
 use mathlib.Core.Bool.{Bool, true, false, _&&_, _||_, and-true, and-false}
-use Rattle.tally.specs.Refusals.{isVerdict}
+use Rattle.tally.specs.Ranges.{isVerdict}
 use borrow.Author.Tests.{eq-eqb, ne-eqb}
 use Rattle.tally.proofs.Verdicts.{is-accepted, not-accepted, is-flag, not-flag}
 use Rattle.tally.proofs.count.known.Statement.{statement}

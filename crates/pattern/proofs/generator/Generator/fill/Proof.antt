@@ -8,7 +8,7 @@ use borrow.Author.Tests.{lt-ltb, le-ltb, eq-eqb, ne-eqb}
 use borrow.Author.Needs.{needs}
 use lib.ListN.{length}
 use Rattle.pattern.specs.Sequence.{onward, bytes}
-use Rattle.pattern.specs.Refusal.{secondTap}
+use Rattle.pattern.specs.Patterns.{secondTap}
 use Rattle.pattern.specs.Generation.{registered, Fills}
 use Rattle.pattern.specs.declared.generator.Generator.{Generator}
 use Rattle.pattern.specs.declared.generator.Filled.the-variants.{Advanced}

@@ -1,0 +1,28 @@
+-- What is proved of frames; proofs/ has each under the same name in lower case.
+-- ┌────────────┬─────────────────────────────────────────────────────────────────┐
+-- │ SomeFrame  │ each data word has a frame                                      │
+-- │ OneFrame   │ and only one                                                    │
+-- │ FrameHigh  │ as a number it is at least 2^47                                 │
+-- │ RunBound   │ lawful frames end to end have no run longer than `longestRun`   │
+-- │ RunReached │ and some have one as long                                       │
+-- └────────────┴─────────────────────────────────────────────────────────────────┘
+use mathlib.Core.Path.{_≡_}
+use mathlib.Core.List.{List}
+use Prim.Native.Nat.{ℕ, _^_, _<_, _≤_}
+use Rattle.frame.specs.Word.{dataEnd, FrameOf}
+use Rattle.frame.specs.Line.{AllLawful, Run, longestRun}
+
+abbrev pub SomeFrame : Type 0
+SomeFrame = (d : ℕ) → d < dataEnd → (f : ℕ) × FrameOf d f
+
+abbrev pub OneFrame : Type 0
+OneFrame = (d f f′ : ℕ) → FrameOf d f → FrameOf d f′ → f ≡ f′
+
+abbrev pub FrameHigh : Type 0
+FrameHigh = (d f : ℕ) → FrameOf d f → 2 ^ 47 ≤ f
+
+abbrev pub RunBound : Type 0
+RunBound = (fs : List ℕ) → AllLawful fs → (s n : ℕ) → Run fs s n → n ≤ longestRun
+
+abbrev pub RunReached : Type 0
+RunReached = (fs : List ℕ) × AllLawful fs × (s : ℕ) × Run fs s longestRun

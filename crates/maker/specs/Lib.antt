@@ -1,0 +1,5 @@
+pub mod Answers
+pub mod Makes
+pub mod Lists
+pub mod Bytes
+pub mod Claims

@@ -1,0 +1,9 @@
+-- The claims of specs/Numbers.antt, by the same names in lower case.
+use mathlib.Core.Path.{refl}
+use Rattle.paper.specs.Numbers.{InOrder, WholeFrames}
+
+pub in-order : InOrder
+in-order = refl
+
+pub whole-frames : WholeFrames
+whole-frames = refl

@@ -1,0 +1,4 @@
+pub mod RunBits
+pub mod Demands
+pub mod OneAnswer
+pub mod Entries

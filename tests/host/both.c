@@ -2,14 +2,13 @@
 // through lks_frame_make and lks_frames_make. The first difference ends the program.
 #include "both.h"
 #include "../../include/lakshrumov.h"
+#include "../figures.h"
 
 #define GUARD 24
 #define BLANK 0xEE
 
 int alone;
-static struct {
-    uint64_t frames, verdict[256], pad_wrong;
-} figures;
+static struct figures figures;
 
 void same(const char *what, uint64_t of, uint64_t archive, uint64_t second)
 {

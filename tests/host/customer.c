@@ -1,7 +1,7 @@
 // Calls the four entries as a customer would: each refusal, each length around a boundary, NULL with length 0, buffers at any address.
 // Every buffer stands between guard bytes, and after each call the whole of it, guards, inputs and what must not be written with it, is
 // held to what is due. All of it runs over two fills, one the other's complement, so that no stray byte can hide behind an equal one.
-#include "plain.h"
+#include "../plain.h"
 #include "../../include/lakshrumov.h"
 
 #define EDGE 16

@@ -1,5 +1,5 @@
 // The header as C++ takes it: the entries keep their C names, so this links, and each has the type that is written here.
-#include "plain.h"
+#include "../plain.h"
 #include "../../include/lakshrumov.h"
 
 static uint64_t (*frame_make)(uint64_t) = lks_frame_make;

@@ -1,7 +1,7 @@
 // The second program's maker and reader of frames: see independent.c.
 #ifndef INDEPENDENT_H
 #define INDEPENDENT_H
-#include "plain.h"
+#include "../plain.h"
 
 // verdict: 0, 1 or 2 flips, or the refusals 13 and 14, which leave data and pad_wrong 0 and no place.
 struct reading {

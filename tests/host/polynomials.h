@@ -1,7 +1,7 @@
 // Polynomials over two elements as numbers, the coefficient of x^k as bit k, and comparisons that are counted.
 #ifndef POLYNOMIALS_H
 #define POLYNOMIALS_H
-#include "plain.h"
+#include "../plain.h"
 #include "../../include/lakshrumov.h"
 
 static const uint64_t g14 = 1 << 12 | 1 << 10 | 1 << 8 | 1 << 5 | 1 << 4 | 1 << 3 | 1; // (14)

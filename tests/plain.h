@@ -12,11 +12,16 @@ typedef __UINT64_TYPE__ uint64_t;
 extern "C" {
 #endif
 int printf(const char *format, ...);
+int putchar(int c);
+long read(int file, void *to, size_t n);
+long write(int file, const void *from, size_t n);
 int strcmp(const char *a, const char *b);
+unsigned long strtoul(const char *text, char **end, int base);
 int memcmp(const void *a, const void *b, size_t n);
 void *memcpy(void *to, const void *from, size_t n);
 void *memset(void *to, int byte, size_t n);
 void exit(int status) __attribute__((noreturn));
+void abort(void) __attribute__((noreturn));
 #ifdef __cplusplus
 }
 #endif
@@ -26,6 +31,7 @@ void exit(int status) __attribute__((noreturn));
 #include <stdio.h>
 #include <stdlib.h>
 #include <string.h>
+#include <unistd.h>
 #endif
 
 typedef unsigned long long shown; // what %llu and %llx print

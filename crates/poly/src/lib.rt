@@ -1,9 +1,6 @@
 // Division by g = x^12 + x^10 + x^8 + x^5 + x^4 + x^3 + 1 of polynomials over two elements, held as numbers.
 ghost use mathlib.Core.Path.{_≡_};
 ghost use Rattle.poly.specs.Poly.{wordBits, rem};
-ghost use Rattle.poly.specs.Bytes.{ByteTable};
-
-mod bytes;
 
 const G: u64 = 0x1539;
 
@@ -25,11 +22,4 @@ pub fn remainder(v: u64) -> u64
         k += 1;
     }
     left / 0x8_0000_0000_0000
-}
-
-// The remainders of single bytes. Whoever divides many words takes the table once and lends it on: each call writes it anew.
-pub fn byte_remainders() -> [u16; 2048]
-    ensures { λ t. ⌜ ByteTable t ⌝ }
-{
-    bytes::BYTES
 }

@@ -20,8 +20,8 @@ fn read_each(frames: &[u8], data: &mut [u8], verdicts: &mut [u8])
     ensures data { λ _. ⌜ WrittenBytes DataOf (numbersOf (now (frames .entry))) (now («data» .entry)) (now («data» .exit)) (length (now (frames .entry)) / 8) ⌝ }
     ensures verdicts { λ _. ⌜ Written VerdictOf (numbersOf (now (frames .entry))) (now (verdicts .entry)) (now (verdicts .exit)) (length (now (frames .entry)) / 8) ⌝ }
 {
-    let t = bch::corrections();
-    let b = poly::byte_remainders();
+    let t = tables::corrections();
+    let b = tables::byte_remainders();
     let mut i = 0;
     let mut frame = octets::number(frames, i);
     while i < frames.len() / 8 {

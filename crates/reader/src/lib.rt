@@ -39,7 +39,7 @@ pub enum Listed {
 pub fn read(frame: u64) -> Reading
     ensures { λ r. ⌜ Reads frame (answer r) ⌝ }
 {
-    let t = bch::corrections();
+    let t = tables::corrections();
     let e = mend::look(&t, poly::remainder(frame / 2));
     mend::reading(e, frame)
 }

@@ -46,8 +46,8 @@ pub(crate) fn read_all(frames: &[u64], data: &mut [u64], verdicts: &mut [u8], pa
     ensures verdicts { λ _. ⌜ Written VerdictOf (now (frames .entry)) (now (verdicts .entry)) (now (verdicts .exit)) (length (now (frames .entry))) ⌝ }
     ensures pads { λ _. ⌜ Written PadFlagOf (now (frames .entry)) (now (pads .entry)) (now (pads .exit)) (length (now (frames .entry))) ⌝ }
 {
-    let t = bch::corrections();
-    let b = poly::byte_remainders();
+    let t = tables::corrections();
+    let b = tables::byte_remainders();
     let mut i = 0;
     while i < frames.len() {
         let frame = frames[i];

@@ -1,11 +1,13 @@
 // Reading by a table that is lent: the entry of the remainder, the places it flips, and what the mended word says.
 ghost use mathlib.Core.Path.{_≡_};
-ghost use Prim.Native.Nat.{_/_, _<_, _^_};
-ghost use lib.Dec.{T};
+ghost use Prim.Native.Nat.{_/_, _%_, _<_, _^_};
+ghost use lib.Bits.{bitXor};
+ghost use lib.Dec.{T, eqb};
 ghost use Rattle.poly.specs.Poly.{wordBits, rem};
 ghost use Rattle.poly.specs.Bytes.{ByteTable};
 ghost use Rattle.bch.specs.Corrections.{valid, places, pattern, Entry, Corrections};
-ghost use Rattle.reader.specs.Answers.{placesOf, answer};
+ghost use Rattle.frame.specs.Word.{dataOf};
+ghost use Rattle.reader.specs.Answers.{word, placesOf, flag, answer};
 ghost use Rattle.reader.specs.Reads.{Reads};
 use crate::Flips;
 use crate::Reading;
@@ -64,6 +66,26 @@ fn flips_of(e: u64) -> Flips
     Flips::Two(a, b)
 }
 
+// The word of a frame, with the places of an entry flipped.
+fn mended(e: u64, frame: u64) -> u64
+    requires { ⌜ e < 4096 ⌝ }
+    ensures { λ w. ⌜ w ≡ bitXor (frame / 2) (pattern e) ⌝ }
+{
+    (frame / 2) ^ mask(e)
+}
+
+// What a lawful word says that the places of an entry led to.
+fn accepted(e: u64, frame: u64, w: u64) -> Reading
+    requires { ⌜ T (valid e) ⌝ }
+    ensures { λ r. ⌜ answer r ≡ word (dataOf w) (places e) (flag (eqb (frame % 2) (w % 2))) ⌝ }
+{
+    Reading::Word {
+        data: data_of(w),
+        flips: flips_of(e),
+        pad_wrong: frame % 2 == w % 2,
+    }
+}
+
 // The frame, read by the entry of its word's remainder.
 pub(crate) fn reading(e: u64, frame: u64) -> Reading
     requires { ⌜ Entry (rem wordBits (frame / 2)) e ⌝ }
@@ -72,13 +94,9 @@ pub(crate) fn reading(e: u64, frame: u64) -> Reading
     if e == 0 {
         return Reading::NoWord;
     }
-    let w = (frame / 2) ^ mask(e);
+    let w = mended(e, frame);
     if runs_right(w) {
-        return Reading::Word {
-            data: data_of(w),
-            flips: flips_of(e),
-            pad_wrong: frame % 2 == w % 2,
-        };
+        return accepted(e, frame, w);
     }
     Reading::RunBroken
 }

@@ -20,16 +20,11 @@ use Rattle.hier.specs.declared.Coded.{Coded}
 use Rattle.hier.specs.declared.Coded.the-variants.{Block, NotMade}
 use Rattle.hier.specs.declared.Reading.{Reading}
 use Rattle.hier.specs.declared.Reading.the-variants.{Word, NoBlock, Eighth}
-use Rattle.hier.specs.Blocks.{Lawful, blockOf, codeOf, flips, Near}
+use Rattle.block.specs.Blocks.{Lawful, blockOf, codeOf, flips, Near}
 use Rattle.hier.specs.Calls.{Value, codedNumber, Read, Reads}
-use Rattle.hier.specs.Claims.{OneMake, SomeRead, OneRead, NeverASecond}
-use Rattle.hier.proofs.Choice.{choice, near₀, near₁, near₂, near₃, total, sides, choice-lt, determined, found}
-
-pub never-a-second : NeverASecond
-never-a-second b u w c u′ w′ c′ l l′ n n′ =
-    let s = determined b u w c l n in
-    let t = determined b u′ w′ c′ l′ n′ in
-    (s .0 ∙ sym (t .0), s .1 ∙ sym (t .1), s .2 ∙ sym (t .2))
+use Rattle.hier.specs.Claims.{OneMake, SomeRead, OneRead}
+use Rattle.block.specs.Found.{choice, near₀, near₁, near₂, near₃, total, sides}
+use Rattle.block.proofs.Choice.{choice-lt, determined, found, never-a-second}
 
 pub data-lawful : (d : ℕ) → d < 128 → Lawful (d / 16 / 3) (d / 16 % 3) (d % 16)
 data-lawful d h = record { u-lt = omega arith; w-lt = mod-lt _ (lit< tt); c-lt = mod-lt _ (lit< tt) }

@@ -1,6 +1,2 @@
-pub mod Laws
-pub mod Tables
-pub mod Parts
-pub mod Choice
 pub mod Answers
 pub mod Theorems

@@ -10,8 +10,8 @@ use native.Mathlib.Omega.{arith}
 use borrow.Author.Tests.{eq-eqb, eqb-false, ltb-true}
 use Rattle.hier.specs.declared.Reading.the-variants.{Word}
 use Rattle.laws.specs.Bits.{bit, unlike}
-use Rattle.hier.specs.Symbols.{gap}
-use Rattle.hier.specs.Blocks.{symbol, flips, Near}
+use Rattle.block.specs.Symbols.{gap}
+use Rattle.block.specs.Blocks.{symbol, flips, Near}
 use Rattle.paper.specs.Numbers.{outside, unless}
 use Rattle.hier.specs.Claims.{Mends, RoundTrip}
 use Rattle.hier.proofs.Answers.{reads-word, one-read}

@@ -18,7 +18,7 @@ use Rattle.hier.specs.declared.Coded.{Coded}
 use Rattle.hier.specs.declared.Coded.the-variants.{Block, NotMade}
 use Rattle.hier.specs.declared.Reading.{Reading}
 use Rattle.hier.specs.declared.Reading.the-variants.{Word, NoBlock, Eighth}
-use Rattle.hier.specs.Blocks.{Lawful, blockOf, codeOf, flips, Near}
+use Rattle.block.specs.Blocks.{Lawful, blockOf, codeOf, flips, Near}
 
 abbrev pub dataEnd : ℕ
 dataEnd = 128

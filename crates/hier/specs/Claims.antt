@@ -3,7 +3,6 @@
 -- │ OneMake      │ no second answer meets the contract of `make`                    │
 -- │ SomeRead     │ each block has an answer that meets the contract of `read`       │
 -- │ OneRead      │ and only one                                                     │
--- │ NeverASecond │ no two lawful blocks are near one block                          │
 -- │ Mends        │ made and then damaged in at most two symbols by one bit each:    │
 -- │              │ the data and the number of bits are read                         │
 -- │ RoundTrip    │ made and unharmed: the data, and no flip                         │
@@ -14,7 +13,7 @@ use Rattle.hier.specs.declared.Coded.{Coded}
 use Rattle.hier.specs.declared.Coded.the-variants.{Block}
 use Rattle.hier.specs.declared.Reading.{Reading}
 use Rattle.hier.specs.declared.Reading.the-variants.{Word}
-use Rattle.hier.specs.Blocks.{Lawful, blockOf, flips, Near}
+use Rattle.block.specs.Blocks.{flips, Near}
 use Rattle.hier.specs.Calls.{Makes, Reads}
 
 abbrev pub OneMake : Type 0
@@ -25,10 +24,6 @@ SomeRead = (b : ℕ) → (r : Reading) × Reads b r
 
 abbrev pub OneRead : Type 0
 OneRead = (b : ℕ) (r s : Reading) → Reads b r → Reads b s → r ≡ s
-
-abbrev pub NeverASecond : Type 0
-NeverASecond = (b u w c u′ w′ c′ : ℕ) → Lawful u w c → Lawful u′ w′ c′ → Near b (blockOf u w c) → Near b (blockOf u′ w′ c′)
-    → (u ≡ u′) × (w ≡ w′) × (c ≡ c′)
 
 abbrev pub Mends : Type 0
 Mends = (d l b : ℕ) (r : Reading) → Makes d (Block l) → Near b l → Reads b r → r ≡ Word d (flips b l)

@@ -1,5 +1,3 @@
-pub mod Symbols
-pub mod Blocks
 pub mod Calls
 pub mod Claims
 pub mod Inside

@@ -1,9 +1,11 @@
 // The hierarchical code 4c2 on four wires: seven data bits as four symbols of two ones each, and back with up to two flips.
 ghost use mathlib.Core.Path.{_≡_};
 ghost use Prim.Native.Nat.{_<_, _≤_};
-ghost use Rattle.hier.specs.Symbols.{member};
+ghost use Rattle.block.specs.Symbols.{member};
 ghost use Rattle.hier.specs.Calls.{codedNumber, numberOf, Makes, Reads};
-ghost use Rattle.hier.specs.Inside.{nearOf, kindOf, solved, Pairs, Kinds, Rows};
+ghost use Rattle.block.specs.Inside.{nearOf, kindOf, solved, Pairs, Kinds, Rows};
+ghost use Rattle.block.specs.Found.{choice, halves, digits};
+ghost use Rattle.hier.specs.Inside.{Small, NearsOf};
 
 // The block of the data, or row 11.
 pub enum Coded {
@@ -146,28 +148,65 @@ pub fn make(data: u8) -> Coded
     Coded::Block(first * 4096 + second * 256 + third * 16 + fourth)
 }
 
-// Reads any sixteen bits. A symbol with two ones is taken as it is: no other is within one bit of it.
+// 3 u + w of a block, by the symbols that came whole. A symbol with two ones is taken as it is: no other is within one bit of it.
+fn chosen(block: u16) -> u16
+    ensures { λ r. ⌜ (r ≡ choice block) × (r < 9) ⌝ }
+{
+    solve(
+        kind(block / 4096 % 16),
+        kind(block / 256 % 16),
+        kind(block / 16 % 16),
+        kind(block % 16),
+    )
+}
+
+// What `nearest` says of each of the four symbols.
+struct Nears {
+    first: u16,
+    second: u16,
+    third: u16,
+    fourth: u16,
+}
+
+fn near_each(v: u16, block: u16) -> Nears
+    requires { ⌜ v < 9 ⌝ }
+    ensures { λ r. ⌜ NearsOf block v r ⌝ }
+{
+    let u = v / 3;
+    let w = v % 3;
+    Nears {
+        first: nearest(u, block / 4096 % 16),
+        second: nearest(w, block / 256 % 16),
+        third: nearest((u + w) % 3, block / 16 % 16),
+        fourth: nearest((u + 2 * w) % 3, block % 16),
+    }
+}
+
+fn flips_in(n: Nears) -> u16
+    requires { ⌜ Small n ⌝ }
+    ensures { λ r. ⌜ (r ≡ halves (n .first) (n .second) (n .third) (n .fourth)) × (r ≤ 12) ⌝ }
+{
+    n.first / 2 + n.second / 2 + n.third / 2 + n.fourth / 2
+}
+
+fn sides_in(n: Nears) -> u16
+    ensures { λ r. ⌜ (r ≡ digits (n .first) (n .second) (n .third) (n .fourth)) × (r < 16) ⌝ }
+{
+    n.first % 2 * 8 + n.second % 2 * 4 + n.third % 2 * 2 + n.fourth % 2
+}
+
+// Reads any sixteen bits.
 pub fn read(block: u16) -> Reading
     ensures { λ r. ⌜ Reads block r ⌝ }
 {
-    let first = block / 4096 % 16;
-    let second = block / 256 % 16;
-    let third = block / 16 % 16;
-    let fourth = block % 16;
-    let v = solve(kind(first), kind(second), kind(third), kind(fourth));
-    let u = v / 3;
-    let w = v % 3;
-    let near1 = nearest(u, first);
-    let near2 = nearest(w, second);
-    let near3 = nearest((u + w) % 3, third);
-    let near4 = nearest((u + 2 * w) % 3, fourth);
-    let flips = near1 / 2 + near2 / 2 + near3 / 2 + near4 / 2;
+    let v = chosen(block);
+    let n = near_each(v, block);
+    let flips = flips_in(n);
     if 2 < flips {
         return Reading::NoBlock;
     }
     if v == 8 {
         return Reading::Eighth;
     }
-    let c = near1 % 2 * 8 + near2 % 2 * 4 + near3 % 2 * 2 + near4 % 2;
-    Reading::Word((v * 16 + c) as u8, flips as u8)
+    Reading::Word((v * 16 + sides_in(n)) as u8, flips as u8)
 }

@@ -15,9 +15,9 @@ use Rattle.maker.specs.declared.Making.the-variants.{Frame}
 use Rattle.maker.proofs.Answered.{makes-frame}
 use Rattle.reader.proofs.Demands.{one-answer, still-line}
 use Rattle.maker.proofs.OneAnswer.{one-making}
-use Rattle.hier.specs.Symbols.{gap}
-use Rattle.hier.specs.Blocks.{blockOf}
-use Rattle.hier.specs.Inside.{nearOf, kindOf, solved}
+use Rattle.block.specs.Symbols.{gap}
+use Rattle.block.specs.Blocks.{blockOf}
+use Rattle.block.specs.Inside.{nearOf, kindOf, solved}
 use Rattle.hier.specs.Calls.{codedNumber, numberOf}
 use Rattle.hier.specs.declared.Coded.the-variants.{Block, NotMade}
 use Rattle.hier.specs.declared.Reading.the-variants.{Word, NoBlock, Eighth}

@@ -2,7 +2,7 @@
 use mathlib.Core.Path.{sym, subst}
 use Prim.Native.Nat.{ℕ, _≤_}
 use borrow.Author.Needs.{needs}
-use Rattle.hier.proofs.Tables.{kind-le}
+use Rattle.block.proofs.Tables.{kind-le}
 use Rattle.hier.proofs.kind.Statement.{statement}
 use Rattle.hier.proofs.kind.Tie as tie
 

@@ -1,6 +1,6 @@
 -- `kinds`: the constant passes its test.
-use Rattle.hier.specs.Inside.{kindOf}
-use Rattle.hier.proofs.Tables.{kind?, is-kinds}
+use Rattle.block.specs.Inside.{kindOf}
+use Rattle.block.proofs.Tables.{kind?, is-kinds}
 use Rattle.hier.proofs.kinds.Statement.{statement}
 use Rattle.hier.proofs.kinds.Tie as tie
 

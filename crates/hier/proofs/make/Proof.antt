@@ -4,9 +4,9 @@ use Prim.Native.Nat.{ℕ, _+_, _*_, _/_, _%_}
 use native.Mathlib.Nat.{div-one}
 use borrow.Author.Needs.{needs}
 use borrow.Author.Tests.{lt-ltb, le-ltb}
-use Rattle.hier.specs.Symbols.{member}
-use Rattle.hier.specs.Blocks.{blockOf}
-use Rattle.hier.proofs.Laws.{ap₄}
+use Rattle.block.specs.Symbols.{member}
+use Rattle.block.specs.Blocks.{blockOf}
+use Rattle.block.proofs.Laws.{ap₄}
 use Rattle.hier.proofs.make.Statement.{statement}
 use Rattle.hier.proofs.make.Tie as tie
 

@@ -2,7 +2,7 @@
 use mathlib.Core.Path.{sym, subst}
 use Prim.Native.Nat.{ℕ, _<_}
 use borrow.Author.Needs.{needs}
-use Rattle.hier.proofs.Tables.{near-lt}
+use Rattle.block.proofs.Tables.{near-lt}
 use Rattle.hier.proofs.nearest.Statement.{statement}
 use Rattle.hier.proofs.nearest.Tie as tie
 

@@ -1,5 +1,5 @@
 -- `pairs`: the constant passes its test.
-use Rattle.hier.proofs.Tables.{pair?, is-pairs}
+use Rattle.block.proofs.Tables.{pair?, is-pairs}
 use Rattle.hier.proofs.pairs.Statement.{statement}
 use Rattle.hier.proofs.pairs.Tie as tie
 

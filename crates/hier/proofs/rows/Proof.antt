@@ -1,7 +1,7 @@
 -- `rows`: the constant passes its test.
-use Rattle.hier.specs.Symbols.{gap}
-use Rattle.hier.specs.Inside.{nearOf}
-use Rattle.hier.proofs.Tables.{row?, is-rows}
+use Rattle.block.specs.Symbols.{gap}
+use Rattle.block.specs.Inside.{nearOf}
+use Rattle.block.proofs.Tables.{row?, is-rows}
 use Rattle.hier.proofs.rows.Statement.{statement}
 use Rattle.hier.proofs.rows.Tie as tie
 

@@ -2,7 +2,7 @@
 use native.Mathlib.Omega.{arith}
 use borrow.Author.Needs.{needs}
 use borrow.Author.Tests.{lt-ltb, le-ltb}
-use Rattle.hier.specs.Inside.{solved}
+use Rattle.block.specs.Inside.{solved}
 use Rattle.hier.proofs.solve.Statement.{statement}
 use Rattle.hier.proofs.solve.Tie as tie
 

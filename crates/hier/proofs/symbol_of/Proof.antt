@@ -2,7 +2,7 @@
 use mathlib.Core.Path.{sym, subst}
 use Prim.Native.Nat.{ℕ, _<_}
 use borrow.Author.Needs.{needs}
-use Rattle.hier.proofs.Parts.{member-lt}
+use Rattle.block.proofs.Parts.{member-lt}
 use Rattle.hier.proofs.symbol_of.Statement.{statement}
 use Rattle.hier.proofs.symbol_of.Tie as tie
 

@@ -13,8 +13,8 @@ use native.Mathlib.Omega.{arith}
 use lib.Dec.{eqb, eqb→eq, lit<}
 use Rattle.laws.proofs.Computed.{below}
 use Rattle.laws.specs.Bits.{bit}
-use Rattle.hier.specs.Symbols.{member}
-use Rattle.hier.specs.Blocks.{symbol, blockOf, subset}
+use Rattle.block.specs.Symbols.{member}
+use Rattle.block.specs.Blocks.{symbol, blockOf, subset}
 
 pub symbol-lt : (b i : ℕ) → symbol b i < 16
 symbol-lt b i = mod-lt _ (lit< tt)

@@ -12,7 +12,7 @@
 -- └───────────────┴─────────────────────────────────────────────────────────────────┘
 use Prim.Native.Nat.{ℕ, zero, suc, _+_, _-_, _*_, _/_, _%_, _^_, _<_, _≤_}
 use Rattle.laws.specs.Bits.{bit}
-use Rattle.hier.specs.Symbols.{member, gap}
+use Rattle.block.specs.Symbols.{member, gap}
 
 abbrev pub symbol : ℕ → ℕ → ℕ
 symbol b i = b / 16 ^ (3 - i) % 16

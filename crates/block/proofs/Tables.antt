@@ -20,9 +20,9 @@ use lib.Dec.{T, leb, ltb, eqb, leb→le, le→leb, ltb→lt, eqb→eq}
 use lib.ListN.{getD}
 use Rattle.laws.proofs.Truth.{and-l, and-r, implied}
 use Rattle.laws.proofs.Computed.{upto, below}
-use Rattle.hier.specs.Symbols.{member, gap}
-use Rattle.hier.specs.Inside.{nearOf, kindOf, solved, Pairs, Kinds, Rows}
-use Rattle.hier.proofs.Laws.{below₂}
+use Rattle.block.specs.Symbols.{member, gap}
+use Rattle.block.specs.Inside.{nearOf, kindOf, solved, Pairs, Kinds, Rows}
+use Rattle.block.proofs.Laws.{below₂}
 
 abbrev pub agree : ℕ → ℕ → Bool
 agree k s = eqb k 3 || eqb k s

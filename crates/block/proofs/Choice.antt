@@ -1,14 +1,11 @@
 -- What the reader finds: the subsets that fit a block, and how far the block is from the nearest members of these.
--- ┌──────────────┬──────────────────────────────────────────────────────────────────┐
--- │ choice b     │ v = 3 u + w by the symbols that came whole                       │
--- │ near₀ b v .. │ the nearest member of the subsets of v, symbol by symbol         │
--- │ total b v    │ the bits to flip                                                 │
--- │ sides b v    │ the c of the four symbols                                        │
--- │ choice-lt    │ v is below 9                                                     │
--- │ Seen, seen   │ what a lawful block that is near says of these                   │
--- │ determined   │ so u, w, c and the flips are those of the block alone            │
--- │ found        │ where few bits are to flip, there is a lawful block              │
--- └──────────────┴──────────────────────────────────────────────────────────────────┘
+-- ┌────────────────┬────────────────────────────────────────────────────────────────┐
+-- │ choice-lt      │ v is below 9                                                   │
+-- │ Seen, seen     │ what a lawful block that is near says of what is found         │
+-- │ determined     │ so u, w, c and the flips are those of the block alone          │
+-- │ found          │ where few bits are to flip, there is a lawful block            │
+-- │ never-a-second │ no two lawful blocks are near one block                        │
+-- └────────────────┴────────────────────────────────────────────────────────────────┘
 use mathlib.Core.Path.{_≡_, sym, ap, ap₂, _∙_, subst}
 use Prim.Native.Nat.{ℕ, _+_, _*_, _/_, _%_, _≤_, _<_}
 use native.Mathlib.Nat.{mod-lt}
@@ -16,33 +13,14 @@ use native.Mathlib.Omega.{arith}
 use lib.Dec.{T, leb, le→leb, lit<}
 use Rattle.laws.proofs.Xor.{bit-lt}
 use Rattle.laws.specs.Bits.{bit}
-use Rattle.hier.specs.Symbols.{member, gap}
-use Rattle.hier.specs.Blocks.{symbol, Lawful, blockOf, flips, Near}
-use Rattle.hier.specs.Inside.{nearOf, kindOf, solved}
-use Rattle.hier.proofs.Laws.{all-five, each-of-four, ap₄}
-use Rattle.hier.proofs.Tables.{agree, erased, near-sound, close, kind-le, solved-lt, solve-whole}
-use Rattle.hier.proofs.Parts.{symbol-lt, bits, part₀, part₁, part₂, part₃, bit₀, bit₁, bit₂, bit₃}
-
-abbrev pub choice : ℕ → ℕ
-choice b = solved (kindOf (symbol b 0)) (kindOf (symbol b 1)) (kindOf (symbol b 2)) (kindOf (symbol b 3))
-
-abbrev pub near₀ : ℕ → ℕ → ℕ
-near₀ b v = nearOf (v / 3) (symbol b 0)
-
-abbrev pub near₁ : ℕ → ℕ → ℕ
-near₁ b v = nearOf (v % 3) (symbol b 1)
-
-abbrev pub near₂ : ℕ → ℕ → ℕ
-near₂ b v = nearOf ((v / 3 + v % 3) % 3) (symbol b 2)
-
-abbrev pub near₃ : ℕ → ℕ → ℕ
-near₃ b v = nearOf ((v / 3 + 2 * (v % 3)) % 3) (symbol b 3)
-
-abbrev pub total : ℕ → ℕ → ℕ
-total b v = near₀ b v / 2 + near₁ b v / 2 + near₂ b v / 2 + near₃ b v / 2
-
-abbrev pub sides : ℕ → ℕ → ℕ
-sides b v = near₀ b v % 2 * 8 + near₁ b v % 2 * 4 + near₂ b v % 2 * 2 + near₃ b v % 2
+use Rattle.block.specs.Symbols.{member, gap}
+use Rattle.block.specs.Blocks.{symbol, Lawful, blockOf, flips, Near}
+use Rattle.block.specs.Inside.{nearOf, kindOf}
+use Rattle.block.specs.Claims.{NeverASecond}
+use Rattle.block.specs.Found.{choice, near₀, near₁, near₂, near₃, total, sides}
+use Rattle.block.proofs.Laws.{all-five, each-of-four, ap₄}
+use Rattle.block.proofs.Tables.{agree, erased, near-sound, close, kind-le, solved-lt, solve-whole}
+use Rattle.block.proofs.Parts.{symbol-lt, bits, part₀, part₁, part₂, part₃, bit₀, bit₁, bit₂, bit₃}
 
 kind-lt : (b i : ℕ) → kindOf (symbol b i) < 4
 kind-lt b i = omega (arith, kind-le (symbol b i) (symbol-lt b i))
@@ -131,3 +109,9 @@ found b v h few =
       two = subst (λ (n : ℕ). n ≤ 2) (sym e) few;
     } in
     (near, e)
+
+pub never-a-second : NeverASecond
+never-a-second b u w c u′ w′ c′ l l′ n n′ =
+    let s = determined b u w c l n in
+    let t = determined b u′ w′ c′ l′ n′ in
+    (s .0 ∙ sym (t .0), s .1 ∙ sym (t .1), s .2 ∙ sym (t .2))

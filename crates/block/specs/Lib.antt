@@ -1,0 +1,5 @@
+pub mod Symbols
+pub mod Blocks
+pub mod Inside
+pub mod Found
+pub mod Claims

@@ -1,0 +1,39 @@
+-- `chosen` solves for the kinds of the four symbols.
+use mathlib.Core.Path.{sym, ap, _∙_}
+use Prim.Native.Nat.{ℕ, _%_}
+use native.Mathlib.Nat.{div-one}
+use borrow.Author.Needs.{needs}
+use Rattle.block.specs.Inside.{kindOf, solved}
+use Rattle.block.proofs.Laws.{ap₄}
+use Rattle.hier.proofs.chosen.Statement.{statement}
+use Rattle.hier.proofs.chosen.Tie as tie
+
+kind-requires : tie.Need-kind-requires
+kind-requires c κs = search needs
+
+kind-requires-2 : tie.Need-kind-requires-2
+kind-requires-2 c κs = search needs
+
+kind-requires-3 : tie.Need-kind-requires-3
+kind-requires-3 c κs = search needs
+
+kind-requires-4 : tie.Need-kind-requires-4
+kind-requires-4 c κs = search needs
+
+solve-requires : tie.Need-solve-requires
+solve-requires c κs = search needs
+
+returns : tie.Need-returns
+returns c =
+    let k = c .before in
+    let b = k .before .before .before .before .args .block in (
+      c .solve .ensures .0
+      ∙ ap₄ solved (k .before .before .before .kind .ensures .0) (k .before .before .kind2 .ensures .0) (k .before .kind3 .ensures .0)
+      (k .kind4 .ensures .0 ∙ ap (λ (n : ℕ). kindOf (n % 16)) (sym (div-one b))),
+      c .solve .ensures .1,
+    )
+
+pub chosen-spec : {M : Type 1} → statement M
+chosen-spec =
+    tie.close
+    (tie.spec kind-requires kind-requires-2 kind-requires-3 kind-requires-4 solve-requires returns)

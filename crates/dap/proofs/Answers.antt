@@ -1,7 +1,7 @@
 -- What `verdictNumber` comes to past the refusals of lengths and parity; and that no second answer fits a contract.
 -- ┌──────────────┬──────────────────────────────────────────────────────────────────┐
 -- │ Accepted     │ lengths and parity are right                                     │
--- │ many, few    │ the verdict where more than one bit differs, and where not       │
+-- │ few          │ the verdict where at most one bit differs                        │
 -- │ one-make     │ one answer and two outputs meet the contract of `make`           │
 -- │ one-verdict  │ one verdict meets that of `verdict`                              │
 -- │ some-verdict │ and there is one                                                 │
@@ -11,7 +11,7 @@ use mathlib.Core.Path.{_≡_, refl, sym, ap, _∙_, subst}
 use mathlib.Core.Bool.{Bool, true, false, cond, not, _&&_}
 use mathlib.Core.List.{List}
 use Prim.Native.Nat.{ℕ, zero, suc, _≤_, _<_}
-use borrow.Author.Tests.{le-leb, lt-ltb, le-ltb, eq-eqb, eqb-false}
+use borrow.Author.Tests.{le-leb, le-ltb, eq-eqb, eqb-false}
 use lib.Dec.{ltb, eqb}
 use lib.ListN.{length}
 use denote.Ref.{RefT, now, ptr}
@@ -46,9 +46,6 @@ past a b p k =
       eq-eqb (length a) (length b) (k .same),
       le-ltb 1 p (k .bit),
     )
-
-pub many : (a b : List ℕ) (p : ℕ) → Accepted a b p → 1 < diffs a b → verdictNumber a b p ≡ 17
-many a b p k h = past a b p k ∙ simp (lt-ltb 1 (diffs a b) h)
 
 pub few : (a b : List ℕ) (p : ℕ) → Accepted a b p → diffs a b ≤ 1 → verdictNumber a b p ≡ named (diffs a b) (eqb (parityOf a) p)
 few a b p k h = past a b p k ∙ simp (le-ltb 1 (diffs a b) h)

@@ -7,6 +7,7 @@
 -- │ numberOf      │ the number of each verdict: 0 to 3, or the refusal              │
 -- │ named         │ what is damaged where the copies differ in at most one bit,     │
 -- │               │ by whether the parity of the first copy agrees                  │
+-- │ judgement     │ 17 for more bits than one, or what is damaged                   │
 -- │ verdictNumber │ refusals in the paper's order, then what is damaged             │
 -- │ Judges        │ `verdict`                                                       │
 -- │ Empty         │ the empty part, at the start of the first copy                  │
@@ -68,12 +69,14 @@ named zero false = 3
 named (suc n) true = 2
 named (suc n) false = 1
 
+abbrev pub judgement : ℕ → Bool → ℕ
+judgement n agrees = cond (ltb 1 n) tooManyBits (named n agrees)
+
 abbrev pub verdictNumber : List ℕ → List ℕ → ℕ → ℕ
 verdictNumber a b p =
     cond (not (sized a && eqb (length a) (length b))) unfit
     (cond (ltb 1 p) outside
-    (cond (ltb 1 (diffs a b)) tooManyBits
-    (named (diffs a b) (eqb (parityOf a) p))))
+    (judgement (diffs a b) (eqb (parityOf a) p)))
 
 abbrev pub Judges : List ℕ → List ℕ → ℕ → Damage → Type 0
 Judges a b p r = numberOf r ≡ verdictNumber a b p

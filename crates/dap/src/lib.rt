@@ -1,11 +1,13 @@
 // Duplicate-add-parity: two copies of up to 64 bytes and the parity of one, by which a single damaged bit is found.
 ghost use mathlib.Core.Path.{_≡_};
+ghost use mathlib.Core.Bool.{_&&_};
 ghost use mathlib.Core.List.{[], _++_};
 ghost use Prim.Native.Nat.{_≤_};
+ghost use lib.Dec.{leb};
 ghost use lib.ListN.{length, drop};
 ghost use denote.Ref.{ptr};
 ghost use Rattle.dap.specs.Copies.{mostCopied, weight, diffs};
-ghost use Rattle.dap.specs.Calls.{madeNumber, numberOf, Makes, Judges, Hands};
+ghost use Rattle.dap.specs.Calls.{madeNumber, numberOf, judgement, Makes, Judges, Hands};
 
 // The bytes of a copy at most.
 const MOST_COPIED: usize = 64;
@@ -96,20 +98,34 @@ fn copy(data: &[u8], out: &mut [u8])
     }
 }
 
+// Whether a copy may have so many bytes.
+fn sized(n: usize) -> bool
+    ensures { λ r. ⌜ r ≡ leb 1 n && leb n mostCopied ⌝ }
+{
+    if n < 1 {
+        return false;
+    }
+    n <= MOST_COPIED
+}
+
+// Whether so many bytes are copied to outputs of these lengths.
+fn lengths_fit(n: usize, first: usize, second: usize) -> bool
+    ensures { λ r. ⌜ r ≡ (leb 1 n && leb n mostCopied) && (leb n first && leb n second) ⌝ }
+{
+    if !sized(n) {
+        return false;
+    }
+    if first < n {
+        return false;
+    }
+    n <= second
+}
+
 // Copies the data to the start of both outputs and answers its parity.
 pub fn make(data: &[u8], first: &mut [u8], second: &mut [u8]) -> Made
     ensures { λ r. ⌜ Makes (now («data» .entry)) (now (first .entry)) (now (second .entry)) r (now (first .exit)) (now (second .exit)) ⌝ }
 {
-    if data.len() < 1 {
-        return Made::NotMade;
-    }
-    if MOST_COPIED < data.len() {
-        return Made::NotMade;
-    }
-    if first.len() < data.len() {
-        return Made::NotMade;
-    }
-    if second.len() < data.len() {
+    if !lengths_fit(data.len(), first.len(), second.len()) {
         return Made::NotMade;
     }
     copy(data, first);
@@ -117,27 +133,13 @@ pub fn make(data: &[u8], first: &mut [u8], second: &mut [u8]) -> Made
     Made::Parity((weigh(data) % 2) as u8)
 }
 
-// What is damaged among two copies and their parity.
-pub fn verdict(a: &[u8], b: &[u8], parity: u8) -> Damage
-    ensures { λ r. ⌜ Judges (now (a .entry)) (now (b .entry)) parity r ⌝ }
+// What is damaged, by how many bits differ and whether the parity of the first copy agrees.
+fn judged(apart: u32, agrees: bool) -> Damage
+    ensures { λ r. ⌜ numberOf r ≡ judgement apart agrees ⌝ }
 {
-    if a.len() < 1 {
-        return Damage::WrongLength;
-    }
-    if MOST_COPIED < a.len() {
-        return Damage::WrongLength;
-    }
-    if a.len() != b.len() {
-        return Damage::WrongLength;
-    }
-    if 1 < parity {
-        return Damage::NoParity;
-    }
-    let apart = differing(a, b);
     if 1 < apart {
         return Damage::TooManyBits;
     }
-    let agrees = weigh(a) % 2 == parity as u32;
     if apart == 0 {
         if agrees {
             return Damage::Nothing;
@@ -148,6 +150,22 @@ pub fn verdict(a: &[u8], b: &[u8], parity: u8) -> Damage
         return Damage::SecondCopy;
     }
     Damage::FirstCopy
+}
+
+// What is damaged among two copies and their parity.
+pub fn verdict(a: &[u8], b: &[u8], parity: u8) -> Damage
+    ensures { λ r. ⌜ Judges (now (a .entry)) (now (b .entry)) parity r ⌝ }
+{
+    if !sized(a.len()) {
+        return Damage::WrongLength;
+    }
+    if a.len() != b.len() {
+        return Damage::WrongLength;
+    }
+    if 1 < parity {
+        return Damage::NoParity;
+    }
+    judged(differing(a, b), weigh(a) % 2 == parity as u32)
 }
 
 // The empty part of a slice, at its start.

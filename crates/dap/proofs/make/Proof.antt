@@ -1,77 +1,65 @@
--- `make` tests the lengths in order, then copies twice and weighs.
-use mathlib.Core.Path.{refl, ap}
-use Prim.Native.Nat.{ℕ, _%_}
+-- `make` tests the lengths, then copies twice and weighs.
+use mathlib.Core.Path.{_≡_, refl, sym, ap, _∙_}
+use mathlib.Core.Bool.{true, _&&_}
+use mathlib.Core.List.{List}
+use Prim.Native.Nat.{ℕ, _%_, _≤_}
 use borrow.Author.Needs.{needs}
-use borrow.Author.Tests.{le-leb, lt-leb}
+use borrow.Author.Tests.{not-true, not-false, leb-true}
+use lib.Dec.{leb}
+use lib.ListN.{length}
+use Rattle.paper.specs.Numbers.{unfit, unless}
+use Rattle.laws.proofs.Truth.{two}
 use Rattle.dap.proofs.make.Statement.{statement}
 use Rattle.dap.proofs.make.Tie as tie
 
+lengths-fit-requires : tie.Need-lengths-fit-requires
+lengths-fit-requires c κs = search needs
+
 returns : tie.Need-returns
-returns c = record { number = simp (lt-leb _ _ (c .if1 .taken)); parity = tt; first = refl; second = refl }
+returns c =
+    record { number = ap (unless unfit) (sym (not-true _ (c .if1 .taken)) ∙ c .before .lengths-fit .ensures); parity = tt; first = refl; second = refl }
+
+-- what the tests of the lengths say
+record Fit (n first second : ℕ) : Type 0 where
+  most : n ≤ 64
+  one : n ≤ first
+  other : n ≤ second
+
+fit : (n first second : ℕ) → (leb 1 n && leb n 64) && (leb n first && leb n second) ≡ true → Fit n first second
+fit n first second e =
+    let s = two (leb 1 n && leb n 64) (leb n first && leb n second) e in
+    let o = two (leb n first) (leb n second) (s .1) in
+    record { most = leb-true _ _ (two (leb 1 n) (leb n 64) (s .0) .1); one = leb-true _ _ (o .0); other = leb-true _ _ (o .1) }
+
+fitting : (c : tie.Else1)
+    → let a = c .before .before .before .before .before .args in Fit (length (a .«data» .now)) (length (a .first .now)) (length (a .second .now))
+fitting c = fit _ _ _ (sym (c .before .lengths-fit .ensures) ∙ not-false _ (c .if1 .left))
+
+copy-requires : tie.Need-copy-requires
+copy-requires c κs = let f = fitting (c .before) in search needs
+
+copy-requires-2 : tie.Need-copy-requires-2
+copy-requires-2 c κs = let f = fitting (c .before .before .before .before .before) in search needs
+
+weigh-requires : tie.Need-weigh-requires
+weigh-requires c κs = let f = fitting (c .before .before .before .before .before .before .before .before) in search needs
+
+cast-t16 : tie.Need-cast-t16
+cast-t16 c = search needs
+
+same-length : tie.Need-same-length
+same-length c = let f = fitting (c .before .before .before .before .before .before .before .before .before) in search needs
+
+same-length-2 : tie.Need-same-length-2
+same-length-2 c = let f = fitting (c .before .before .before .before .before .before .before .before .before) in search needs
 
 returns-2 : tie.Need-returns-2
 returns-2 c =
-    record {
-      number = simp (le-leb _ _ (c .before .if1 .left), lt-leb _ _ (c .if2 .taken));
-      parity = tt;
-      first = refl;
-      second = refl;
-    }
-
-returns-3 : tie.Need-returns-3
-returns-3 c =
-    record {
-      number = simp (le-leb _ _ (c .before .before .if1 .left), le-leb _ _ (c .before .if2 .left), lt-leb _ _ (c .if3 .taken));
-      parity = tt;
-      first = refl;
-      second = refl;
-    }
-
-returns-4 : tie.Need-returns-4
-returns-4 c = let q = c .before in
-    record {
-      number =
-          simp (
-            le-leb _ _ (q .before .before .if1 .left),
-            le-leb _ _ (q .before .if2 .left),
-            le-leb _ _ (q .if3 .left),
-            lt-leb _ _ (c .if4 .taken),
-          );
-      parity = tt;
-      first = refl;
-      second = refl;
-    }
-
-copy-requires : tie.Need-copy-requires
-copy-requires c κs = search needs
-
-copy-requires-2 : tie.Need-copy-requires-2
-copy-requires-2 c κs = search needs
-
-weigh-requires : tie.Need-weigh-requires
-weigh-requires c κs = search needs
-
-cast-t14 : tie.Need-cast-t14
-cast-t14 c = search needs
-
-same-length : tie.Need-same-length
-same-length c = search needs
-
-same-length-2 : tie.Need-same-length-2
-same-length-2 c = search needs
-
-returns-5 : tie.Need-returns-5
-returns-5 c = let k = c .before .before .before in
+    let k = c .before .before .before in
     let h = k .before .before .before .before in
-    let q = h .before .before in
+    let e = h .before .before in
     record {
-      number =
-          simp (
-            le-leb _ _ (q .before .before .before .if1 .left),
-            le-leb _ _ (q .before .before .if2 .left),
-            le-leb _ _ (q .before .if3 .left),
-            le-leb _ _ (q .if4 .left),
-          );
+      number = ap (unless unfit) (sym (not-false _ (e .if1 .left)) ∙ e .before .lengths-fit .ensures);
       parity = ap (λ (n : ℕ). n % 2) (c .weigh .ensures);
       first = h .copy .ensures;
       second = k .copy2 .ensures;
@@ -81,14 +69,12 @@ pub make-spec : {M : Type 1} → statement M
 make-spec =
     tie.close
     (tie.spec
+    lengths-fit-requires
     returns
-    returns-2
-    returns-3
-    returns-4
     copy-requires
     copy-requires-2
     weigh-requires
-    cast-t14
+    cast-t16
     same-length
     same-length-2
-    returns-5)
+    returns-2)

@@ -1,97 +1,67 @@
--- `verdict` goes through the refusals in the paper's order, then by the bits that differ and the parity.
-use mathlib.Core.Path.{_≡_, sym, ap, ap₂, _∙_, subst}
-use mathlib.Core.Bool.{Bool, true, false}
-use Prim.Native.Nat.{ℕ, _%_, _≤_, _<_}
-use native.Mathlib.Omega.{arith}
+-- `verdict` goes through the refusals in the paper's order, then judges.
+use mathlib.Core.Path.{_≡_, sym, ap, ap₂, _∙_}
+use mathlib.Core.Bool.{Bool, true, _&&_}
+use Prim.Native.Nat.{ℕ, _%_, _≤_}
 use borrow.Author.Needs.{needs}
-use borrow.Author.Tests.{le-leb, lt-leb, lt-ltb, eq-eqb, ne-eqb}
-use lib.Dec.{eqb}
+use borrow.Author.Tests.{lt-ltb, le-ltb, eq-eqb, ne-eqb, not-true, not-false, leb-true}
+use lib.Dec.{leb, eqb}
+use lib.ListN.{length}
+use Rattle.laws.proofs.Truth.{two}
 use Rattle.dap.specs.Copies.{parityOf, diffs}
-use Rattle.dap.specs.Calls.{named, verdictNumber}
-use Rattle.dap.proofs.Answers.{Accepted, many, few}
+use Rattle.dap.specs.Calls.{judgement, verdictNumber}
 use Rattle.dap.proofs.verdict.Statement.{statement}
 use Rattle.dap.proofs.verdict.Tie as tie
 
+sized-requires : tie.Need-sized-requires
+sized-requires c κs = search needs
+
 returns : tie.Need-returns
-returns c = simp (lt-leb _ _ (c .if1 .taken))
+returns c = simp (sym (c .before .sized .ensures) ∙ not-true _ (c .if1 .taken))
+
+-- the first copy has 1 to 64 bytes
+some : (c : tie.Else1) → let n = length (c .before .before .before .before .args .a .now) in leb 1 n && leb n 64 ≡ true
+some c = sym (c .before .sized .ensures) ∙ not-false _ (c .if1 .left)
+
+most : (c : tie.Else1) → length (c .before .before .before .before .args .a .now) ≤ 64
+most c = let n = length (c .before .before .before .before .args .a .now) in leb-true n 64 (two (leb 1 n) (leb n 64) (some c) .1)
 
 returns-2 : tie.Need-returns-2
-returns-2 c = simp (le-leb _ _ (c .before .if1 .left), lt-leb _ _ (c .if2 .taken))
+returns-2 c = simp (some (c .before), ne-eqb _ _ (c .if2 .taken))
 
 returns-3 : tie.Need-returns-3
-returns-3 c = simp (le-leb _ _ (c .before .before .if1 .left), le-leb _ _ (c .before .if2 .left), ne-eqb _ _ (c .if3 .taken))
-
-returns-4 : tie.Need-returns-4
-returns-4 c = simp (le-leb _ _ (c .before .before .before .if1 .left), le-leb _ _ (c .before .before .if2 .left), eq-eqb _ _ (c .before .if3 .left), lt-ltb _ _ (c .if4 .taken))
+returns-3 c = simp (some (c .before .before), eq-eqb _ _ (c .before .if2 .left), lt-ltb _ _ (c .if3 .taken))
 
 differing-requires : tie.Need-differing-requires
-differing-requires c κs = search needs
-
-accepted : (c : tie.Else4)
-    → let a = c .before .before .before .before .before .before .args in Accepted (a .a .now) (a .b .now) (a .parity)
-accepted c =
-    record {
-      some = c .before .before .before .if1 .left;
-      most = c .before .before .if2 .left;
-      same = c .before .if3 .left;
-      bit = c .if4 .left;
-    }
-
-returns-5 : tie.Need-returns-5
-returns-5 c = let q = c .before in
-    sym (many _ _ _ (accepted (q .before)) (subst (λ (n : ℕ). 1 < n) (q .differing .ensures) (c .if5 .taken)))
-
--- at most one bit differs
-close : (c : tie.After-weigh)
-    → let a = c .before .before .before .before .before .before .before .before .before .args in
-    verdictNumber (a .a .now) (a .b .now) (a .parity)
-    ≡ named (diffs (a .a .now) (a .b .now)) (eqb (parityOf (a .a .now)) (a .parity))
-close c = let q = c .before .before in
-    few _ _ _ (accepted (q .before)) (subst (λ (n : ℕ). n ≤ 1) (q .differing .ensures) (c .before .if5 .left))
+differing-requires c κs = (most (c .before .before), c .before .if2 .left)
 
 weigh-requires : tie.Need-weigh-requires
-weigh-requires c κs = search needs
+weigh-requires c κs = most (c .before .before .before)
 
--- the number of bits that differ, where it is not 0
-just-one : (c : tie.Else6)
-    → let a = c .before .before .before .before .before .before .before .before .before .before .args in diffs (a .a .now) (a .b .now) ≡ 1
-just-one c = let q = c .before .before .before in
-    sym (q .differing .ensures) ∙ (omega (arith, c .before .before .if5 .left, c .if6 .left))
+judged-requires : tie.Need-judged-requires
+judged-requires c κs = search needs
 
--- the test of the parity is that of the first copy's
-tested : (c : tie.After-weigh) (t : Bool)
-    → let a = c .before .before .before .before .before .before .before .before .before .args in
-    eqb (c .weigh .result % 2) (a .parity) ≡ t
-    → eqb (parityOf (a .a .now)) (a .parity) ≡ t
-tested c t e = let a = c .before .before .before .before .before .before .before .before .before .args in
-    ap (λ (n : ℕ). eqb (n % 2) (a .parity)) (sym (c .weigh .ensures)) ∙ e
+-- nothing is refused
+past : (c : tie.Else3)
+    → let a = c .before .before .before .before .before .before .args in
+    verdictNumber (a .a .now) (a .b .now) (a .parity) ≡ judgement (diffs (a .a .now) (a .b .now)) (eqb (parityOf (a .a .now)) (a .parity))
+past c = simp (some (c .before .before), eq-eqb _ _ (c .before .if2 .left), le-ltb _ _ (c .if3 .left))
 
-returns-6 : tie.Need-returns-6
-returns-6 c = let q = c .before .before in
-    sym (close q ∙ ap₂ named (sym (q .before .before .differing .ensures) ∙ c .before .if6 .taken) (tested q true (c .if7 .taken)))
-
-returns-7 : tie.Need-returns-7
-returns-7 c = let q = c .before .before in
-    sym (close q ∙ ap₂ named (sym (q .before .before .differing .ensures) ∙ c .before .if6 .taken) (tested q false (c .if7 .left)))
-
-returns-8 : tie.Need-returns-8
-returns-8 c = let q = c .before .before in sym (close q ∙ ap₂ named (just-one (c .before)) (tested q true (c .if8 .taken)))
-
-returns-9 : tie.Need-returns-9
-returns-9 c = let q = c .before .before in sym (close q ∙ ap₂ named (just-one (c .before)) (tested q false (c .if8 .left)))
+returns-4 : tie.Need-returns-4
+returns-4 c =
+    let w = c .before in
+    let d = w .before in
+    let p = d .before .before .before .before .before .before .before .args .parity in
+    c .judged .ensures ∙ ap₂ judgement (d .differing .ensures) (ap (λ (n : ℕ). eqb (n % 2) p) (w .weigh .ensures)) ∙ sym (past (d .before))
 
 pub verdict-spec : {M : Type 1} → statement M
 verdict-spec =
     tie.close
     (tie.spec
+    sized-requires
     returns
     returns-2
     returns-3
-    returns-4
     differing-requires
-    returns-5
     weigh-requires
-    returns-6
-    returns-7
-    returns-8
-    returns-9)
+    judged-requires
+    returns-4)

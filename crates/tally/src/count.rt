@@ -3,7 +3,7 @@ ghost use mathlib.Core.Path.{_≡_};
 ghost use mathlib.Core.Bool.{true, cond, _&&_};
 ghost use mathlib.Core.List.{[], _∷_};
 ghost use Prim.Native.Nat.{_+_, _-_, _^_, _<_, _≤_};
-ghost use lib.Dec.{eqb};
+ghost use lib.Dec.{eqb, leb};
 ghost use lib.ListN.{length};
 ghost use Rattle.paper.specs.Numbers.{mostCounted};
 ghost use Rattle.tally.specs.Ranges.{accepted, isVerdict, isFlag, lawful, framesIn, inRange};
@@ -44,12 +44,12 @@ pub(crate) fn in_range(t: Tally) -> bool
     t.pad_wrong <= accepted
 }
 
-// How many frames may still be added.
-pub(crate) fn room(t: Tally) -> u64
+// Whether so many frames may still be added.
+pub(crate) fn has_room(t: Tally, frames: u64) -> bool
     requires { ⌜ framesIn t ≤ mostCounted ⌝ }
-    ensures { λ r. ⌜ r ≡ mostCounted - framesIn t ⌝ }
+    ensures { λ r. ⌜ r ≡ leb frames (mostCounted - framesIn t) ⌝ }
 {
-    MOST_COUNTED - (t.clean + t.one + t.two + t.no_word + t.run_broken)
+    frames <= MOST_COUNTED - (t.clean + t.one + t.two + t.no_word + t.run_broken)
 }
 
 // Two tallies, count by count.

@@ -74,7 +74,7 @@ impl Tally {
         let Counted::Counts(new) = count::count(verdicts, pads) else {
             return Added::OutOfRange;
         };
-        if count::room(self) < verdicts.len() as u64 {
+        if !count::has_room(self, verdicts.len() as u64) {
             return Added::Full;
         }
         Added::Next(count::sum(self, new))

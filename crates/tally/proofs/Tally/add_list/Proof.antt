@@ -2,11 +2,12 @@
 use mathlib.Core.Path.{_≡_, refl, sym, ap, _∙_, subst}
 use mathlib.Core.Bool.{Bool, true, false, cond, _&&_, and-false}
 use mathlib.Core.List.{List}
-use Prim.Native.Nat.{ℕ, _+_, _-_, _≤_}
+use Prim.Native.Nat.{ℕ, _+_, _-_, _≤_, _<_}
 use native.Mathlib.Omega.{arith}
 use borrow.Author.Needs.{needs}
-use borrow.Author.Tests.{not-true, not-false, leb-true}
+use borrow.Author.Tests.{not-true, not-false, leb-true, leb-false}
 use lib.Dec.{leb}
+use lib.ListN.{length}
 use Rattle.paper.specs.Numbers.{mostCounted}
 use Rattle.tally.specs.Ranges.{lawful, acceptedIn, framesIn, inRange}
 use Rattle.tally.specs.Counts.{counts, both}
@@ -78,27 +79,35 @@ module _ (c : tie.After-known-told) where
       let r = two (leb (framesIn self) mostCounted) (leb (self .«pad_wrong») (acceptedIn self)) range in
       (leb-true _ _ (r .0), leb-true _ _ (r .1))
 
-room-requires : tie.Need-room-requires
-room-requires c κs = bounds c .0
+has-room-requires : tie.Need-has-room-requires
+has-room-requires c κs = bounds c .0
+
+-- the frames that still fit
+past : (c : tie.Then3) → let k = c .before .before in mostCounted < framesIn (self k) + length (vs k)
+past c = let k = c .before .before in
+    omega (arith, bounds k .0, leb-false (length (vs k)) (mostCounted - framesIn (self k)) (sym (c .before .has-room .ensures) ∙ not-true _ (c .if3 .taken)))
+
+fits : (c : tie.Else3) → let k = c .before .before in framesIn (self k) + length (vs k) ≤ mostCounted
+fits c = let k = c .before .before in
+    omega (arith, bounds k .0, leb-true (length (vs k)) (mostCounted - framesIn (self k)) (sym (c .before .has-room .ensures) ∙ not-false _ (c .if3 .left)))
 
 returns-4 : tie.Need-returns-4
 returns-4 c =
     let k = c .before .before in
-    refuse-full (self k) (vs k) (ps k) (c .before .before .before .before .before .before .before .before .if1 .left) (range k) (lists k .0)
-    (omega (arith, c .before .room .ensures, bounds k .0))
+    refuse-full (self k) (vs k) (ps k) (c .before .before .before .before .before .before .before .before .if1 .left) (range k) (lists k .0) (past c)
 
 sum-requires : tie.Need-sum-requires
 sum-requires c κs =
     let k = c .before .before in
     let n = each (vs k) (ps k) (lists k .0) in
     subst (λ (u : Tally). (framesIn (self k) + framesIn u ≤ mostCounted) × (self k .«pad_wrong» + u .«pad_wrong» ≤ mostCounted)) (sym (lists k .1))
-    (omega (arith, n, c .before .room .ensures, bounds k .0), omega (arith, n, c .before .room .ensures, bounds k, wrong-few (vs k) (ps k)))
+    (omega (arith, n, fits c), omega (arith, n, fits c, bounds k, wrong-few (vs k) (ps k)))
 
 returns-5 : tie.Need-returns-5
 returns-5 c =
     let k = c .before .before .before in
     subst (λ (u : Tally). Adds (self k) (vs k) (ps k) (Next u)) (sym (c .sum .ensures ∙ ap (both (self k)) (lists k .1)))
-    (accept (self k) (vs k) (ps k) (c .before .before .before .before .before .before .before .before .before .if1 .left) (range k) (lists k .0) (omega (arith, c .before .before .room .ensures, bounds k .0)))
+    (accept (self k) (vs k) (ps k) (c .before .before .before .before .before .before .before .before .before .if1 .left) (range k) (lists k .0) (fits (c .before)))
 
 pub add-list-spec : {M : Type 1} → statement M
 add-list-spec =
@@ -111,7 +120,7 @@ add-list-spec =
     enum-known-new
     enum-told
     returns-3
-    room-requires
+    has-room-requires
     returns-4
     sum-requires
     returns-5)

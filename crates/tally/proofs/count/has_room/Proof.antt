@@ -1,7 +1,8 @@
 -- The sum of a state in range fits.
+use mathlib.Core.Path.{refl}
 use native.Mathlib.Omega.{arith}
-use Rattle.tally.proofs.count.room.Statement.{statement}
-use Rattle.tally.proofs.count.room.Tie as tie
+use Rattle.tally.proofs.count.has_room.Statement.{statement}
+use Rattle.tally.proofs.count.has_room.Tie as tie
 
 add-result : tie.Need-add-result
 add-result c = omega arith
@@ -19,7 +20,7 @@ sub-result : tie.Need-sub-result
 sub-result c = omega arith
 
 returns : tie.Need-returns
-returns c = omega arith
+returns c = refl
 
-pub room-spec : {M : Type 1} → statement M
-room-spec = tie.close (tie.spec add-result add-result-2 add-result-3 add-result-4 sub-result returns)
+pub has-room-spec : {M : Type 1} → statement M
+has-room-spec = tie.close (tie.spec add-result add-result-2 add-result-3 add-result-4 sub-result returns)

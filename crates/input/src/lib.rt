@@ -1,34 +1,62 @@
 // Standard input, for programs.
-ghost use Rattle.io.specs.Counts.{Counts};
+ghost use mathlib.Core.Path.{_≡_};
+ghost use Rattle.input.specs.Steps.{negative, cameOf, stepOf, Fits};
 use libc::STDIN_FILENO;
 
-// How much of a buffer was filled before the input ended or a read failed.
-pub struct Filled {
-    pub bytes: usize,
-    pub failed: bool,
+// What became of a buffer: the input filled it, or ended after so many bytes, or could not be read.
+pub enum Input {
+    Full,
+    Last(usize),
+    Failed,
+}
+
+// What a read comes to: so many bytes are there and more may come, or the buffer is done with.
+pub enum Step {
+    More(usize),
+    Over(Input),
+}
+
+// What a read of n bytes comes to, for a buffer of `size` of which `have` were there.
+fn came(n: usize, have: usize, size: usize) -> Step
+    ensures { λ r. ⌜ r ≡ cameOf n have size ⌝ }
+{
+    if have < size {
+        if n < size - have {
+            return Step::More(have + n);
+        }
+    }
+    Step::Over(Input::Full)
+}
+
+// What a read comes to that answered `got`, which is n bytes.
+pub fn after_read(got: isize, n: usize, have: usize, size: usize) -> Step
+    ensures { λ r. ⌜ r ≡ stepOf (negative got) n have size ⌝ }
+{
+    if got < 0 {
+        return Step::Over(Input::Failed);
+    }
+    if n == 0 {
+        return Step::Over(Input::Last(have));
+    }
+    came(n, have, size)
 }
 
 // Reads until the buffer is full or the input ends. A read may hand over any number of bytes.
-pub fn fill(buffer: &mut [u8]) -> Filled
-    ensures { λ r. ⌜ Counts (r .bytes) (now (buffer .exit)) ⌝ }
+pub fn fill(buffer: &mut [u8]) -> Input
+    ensures { λ r. ⌜ Fits r (now (buffer .exit)) ⌝ }
 {
-    let mut done = 0;
-    while done < buffer.len() {
-        let got = libc::read(STDIN_FILENO, &mut buffer[done..]);
-        if got < 0 {
-            return Filled {
-                bytes: done,
-                failed: true,
-            };
+    let mut have = 0;
+    while have < buffer.len() {
+        let got = libc::read(STDIN_FILENO, &mut buffer[have..]);
+        let n = io::count(got, &buffer[have..]);
+        match after_read(got, n, have, buffer.len()) {
+            Step::More(filled) => {
+                have = filled;
+            }
+            Step::Over(i) => {
+                return i;
+            }
         }
-        let n = io::count(got, &buffer[done..]);
-        if n == 0 {
-            break;
-        }
-        done += n;
     }
-    Filled {
-        bytes: done,
-        failed: false,
-    }
+    Input::Full
 }

@@ -1,4 +1,7 @@
 // Counts the frames on standard input, eight bytes each, highest first, and prints eight lines.
+ghost use mathlib.Core.Path.{_≡_};
+ghost use Rattle.listing.specs.States.{stateOf};
+use input::Input;
 use lane::Counted;
 use lane::Totals;
 use libc::STDERR_FILENO;
@@ -13,25 +16,25 @@ enum State {
     Refused,
 }
 
-// One buffer of input, counted on. A buffer that the input did not fill is the last.
-fn one_turn(t: Tally) -> State {
-    let mut buffer = io::large_buffer();
-    let filled = input::fill(&mut buffer);
-    if filled.failed {
-        return State::Unread;
-    }
-    let n = filled.bytes;
-    match lane::count(t, &buffer[..n]) {
-        Counted::Next(u) => {
-            if n < paper::MOST_BYTES {
-                State::Done(u)
-            } else {
-                State::More(u)
-            }
-        }
+// What counting a buffer comes to: the last one ends the run.
+fn counted(c: Counted, last: bool) -> State
+    ensures { λ r. ⌜ r ≡ stateOf c last ⌝ }
+{
+    match c {
+        Counted::Next(u) => { if last { State::Done(u) } else { State::More(u) } }
         Counted::TooLong => State::Refused,
         Counted::OutOfRange => State::Refused,
         Counted::Full => State::Refused,
+    }
+}
+
+// One buffer of input, counted on.
+fn one_turn(t: Tally) -> State {
+    let mut buffer = io::large_buffer();
+    match input::fill(&mut buffer) {
+        Input::Full => counted(lane::count(t, &buffer), false),
+        Input::Last(n) => counted(lane::count(t, &buffer[..n]), true),
+        Input::Failed => State::Unread,
     }
 }
 

@@ -112,8 +112,8 @@ module _ (t : List ℕ) (len : length t ≡ 2048) (test : T (rowed? t)) where
       let v : ℕ = b * 2 ^ (k * 8) in
       let m : suc k * 256 + b ≡ 256 + i = omega arith in
       let p : v * 2 ^ 8 ≡ b * 2 ^ (suc k * 8) =
-          mul-assoc b (2 ^ (k * 8)) (2 ^ 8)
-          ∙ ap (λ (x : ℕ). b * x) (sym (pow-add 2 (k * 8) 8) ∙ ap (λ (n : ℕ). 2 ^ n) (let e : k * 8 + 8 ≡ suc k * 8 = omega arith in e)) in
+      mul-assoc b (2 ^ (k * 8)) (2 ^ 8)
+      ∙ ap (λ (x : ℕ). b * x) (sym (pow-add 2 (k * 8) 8) ∙ ap (λ (n : ℕ). 2 ^ n) (let e : k * 8 + 8 ≡ suc k * 8 = omega arith in e)) in
       ap (λ (n : ℕ). getD t n 0) m ∙ next i (omega arith)
       ∙ ap (carried 8) (low k b hb (omega arith) ∙ rem-wide 8 55 v (short k b hb h))
       ∙ sym (rem-carried 8 55 v) ∙ ap (rem 63) p

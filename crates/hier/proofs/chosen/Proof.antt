@@ -28,8 +28,8 @@ returns c =
     let k = c .before in
     let b = k .before .before .before .before .args .block in (
       c .solve .ensures .0
-      ∙ ap₄ solved (k .before .before .before .kind .ensures .0) (k .before .before .kind2 .ensures .0) (k .before .kind3 .ensures .0)
-      (k .kind4 .ensures .0 ∙ ap (λ (n : ℕ). kindOf (n % 16)) (sym (div-one b))),
+          ∙ ap₄ solved (k .before .before .before .kind .ensures .0) (k .before .before .kind2 .ensures .0) (k .before .kind3 .ensures .0)
+          (k .kind4 .ensures .0 ∙ ap (λ (n : ℕ). kindOf (n % 16)) (sym (div-one b))),
       c .solve .ensures .1,
     )
 

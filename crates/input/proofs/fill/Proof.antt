@@ -1,22 +1,31 @@
--- `input::fill` is safe and ends, and says no more than the buffer has.
-use mathlib.Core.Path.{_≡_, sym}
+-- `fill` is safe and ends, and the bytes it says are in the buffer.
+use mathlib.Core.Path.{_≡_, refl, sym, ap, subst, _∙_}
 use mathlib.Core.List.{List}
 use Prim.Native.Nat.{ℕ, _≤_, _-_}
 use borrow.Author.Needs.{needs}
 use lib.ListN.{length}
 use lib.Seq.{length-take-le}
-use Rattle.io.specs.Counts.{Counts}
+use Rattle.input.specs.Steps.{Fits}
+use Rattle.input.specs.declared.Input.{Input}
+use Rattle.input.specs.declared.Input.the-variants.{Full, Last, Failed}
+use Rattle.input.specs.declared.Step.the-variants.{Over}
+use Rattle.input.proofs.Stepped.{more, last}
 use Rattle.input.proofs.fill.Statement.{statement}
 use Rattle.input.proofs.fill.Tie as tie
 
-counts : (n : ℕ) (xs : List ℕ) → n ≤ length xs → Counts n xs
-counts n xs h = (h, sym (length-take-le n xs h))
+-- an answer that counts no more than the bytes that were there
+fits : (i : Input) (have : ℕ) (bs : List ℕ) → ((k : ℕ) → i ≡ Last k → have ≡ k) → have ≤ length bs → Fits i bs
+fits Full have bs e h = tt
+fits (Last k) have bs e h =
+    let l : k ≤ length bs = subst (λ (n : ℕ). n ≤ length bs) (e k refl) h in
+    (l, sym (length-take-le k bs l))
+fits Failed have bs e h = tt
 
 abbrev Inv-loop : tie.InvT-loop
-Inv-loop buffer₀ done₀ buffer done = (done ≤ length buffer) × (length buffer ≡ length buffer₀)
+Inv-loop buffer₀ have₀ buffer have = (have ≤ length buffer) × (length buffer ≡ length buffer₀)
 
 abbrev μ-loop : tie.MeasureT-loop
-μ-loop buffer₀ done₀ buffer done = length buffer - done
+μ-loop buffer₀ have₀ buffer have = length buffer - have
 
 loop-holds : tie.Need-loop-holds Inv-loop μ-loop
 loop-holds c = search needs
@@ -33,12 +42,6 @@ part-read-end c = search needs
 read-requires : tie.Need-read-requires Inv-loop μ-loop
 read-requires c κs = search needs
 
-same-length : tie.Need-same-length Inv-loop μ-loop
-same-length c = search needs
-
-returns : tie.Need-returns Inv-loop μ-loop
-returns c = counts _ _ (search needs)
-
 sub-count : tie.Need-sub-count Inv-loop μ-loop
 sub-count c = search needs
 
@@ -51,26 +54,40 @@ part-count-end c = search needs
 count-requires : tie.Need-count-requires Inv-loop μ-loop
 count-requires c κs = search needs
 
-add-done : tie.Need-add-done Inv-loop μ-loop
-add-done c = search needs
+after-read-requires : tie.Need-after-read-requires Inv-loop μ-loop
+after-read-requires c κs = search needs
+
+enum-known-filled : tie.Need-enum-known-filled Inv-loop μ-loop
+enum-known-filled c = search needs
 
 loop-less : tie.Need-loop-less Inv-loop μ-loop
-loop-less c = search needs
+loop-less c =
+    let r = c .before .before .before .after-read in
+    let m = more _ _ _ _ _ (sym (r .ensures) ∙ c .before .filled .given .1) (search needs) in
+    search needs
 
 loop-again : tie.Need-loop-again Inv-loop μ-loop
-loop-again c = search needs
+loop-again c =
+    let r = c .before .before .before .after-read in
+    let m = more _ _ _ _ _ (sym (r .ensures) ∙ c .before .filled .given .1) (search needs) in
+    search needs
+
+enum-known-i : tie.Need-enum-known-i Inv-loop μ-loop
+enum-known-i c = search needs
+
+same-length : tie.Need-same-length Inv-loop μ-loop
+same-length c = search needs
+
+returns : tie.Need-returns Inv-loop μ-loop
+returns c =
+    let l = c .before .before .before .before .before .before .before .before .before .before .before .before .loop in
+    fits _ (l .have) _ (λ k e. last _ _ _ _ _ (sym (c .before .before .before .after-read .ensures) ∙ c .before .i .given .1 ∙ ap Over e)) (search needs)
 
 same-length-2 : tie.Need-same-length-2 Inv-loop μ-loop
 same-length-2 c = search needs
 
 returns-2 : tie.Need-returns-2 Inv-loop μ-loop
-returns-2 c = counts _ _ (search needs)
-
-same-length-3 : tie.Need-same-length-3 Inv-loop μ-loop
-same-length-3 c = search needs
-
-returns-3 : tie.Need-returns-3 Inv-loop μ-loop
-returns-3 c = counts _ _ (search needs)
+returns-2 c = search needs
 
 pub fill-spec : {M : Type 1} → statement M
 fill-spec =
@@ -83,16 +100,16 @@ fill-spec =
     part-read-start
     part-read-end
     read-requires
-    same-length
-    returns
     sub-count
     part-count-start
     part-count-end
     count-requires
-    add-done
+    after-read-requires
+    enum-known-filled
     loop-less
     loop-again
+    enum-known-i
+    same-length
+    returns
     same-length-2
-    returns-2
-    same-length-3
-    returns-3)
+    returns-2)

@@ -1,0 +1,47 @@
+-- `counted` goes by the count's answer and by whether the buffer was the last.
+use mathlib.Core.Path.{sym, ap₂}
+use borrow.Author.Needs.{needs}
+use Rattle.listing.specs.States.{stateOf}
+use Rattle.listing.proofs.counted.Statement.{statement}
+use Rattle.listing.proofs.counted.Tie as tie
+
+enum-known-c : tie.Need-enum-known-c
+enum-known-c c = search needs
+
+enum-told : tie.Need-enum-told
+enum-told c = search needs
+
+enum-told-2 : tie.Need-enum-told-2
+enum-told-2 c = search needs
+
+enum-told-3 : tie.Need-enum-told-3
+enum-told-3 c = search needs
+
+returns : tie.Need-returns
+returns c = sym (ap₂ stateOf (c .before .before .c .given .1) (c .if1 .taken))
+
+returns-2 : tie.Need-returns-2
+returns-2 c = sym (ap₂ stateOf (c .before .before .c .given .1) (c .if1 .left))
+
+returns-3 : tie.Need-returns-3
+returns-3 c = search needs
+
+returns-4 : tie.Need-returns-4
+returns-4 c = search needs
+
+returns-5 : tie.Need-returns-5
+returns-5 c = search needs
+
+pub counted-spec : {M : Type 1} → statement M
+counted-spec =
+    tie.close
+    (tie.spec
+    enum-known-c
+    enum-told
+    enum-told-2
+    enum-told-3
+    returns
+    returns-2
+    returns-3
+    returns-4
+    returns-5)

@@ -19,36 +19,24 @@ use borrow.Author.Tests.{eq-eqb}
 use lib.ListN.{length, getD, take, drop, take-append-drop, length-drop, drop-of-length-le}
 use lib.Seq.{length-take-le, getD-take, drop-nil}
 use Rattle.laws.specs.Bits.{bit}
-use Rattle.pattern.specs.Bits.{number, highest, bitsOf}
-use Rattle.pattern.specs.Sequence.{Follows, onward, run}
-use Rattle.pattern.specs.Patterns.{pattern, secondTap}
+use Rattle.sequence.specs.Bits.{number, highest, bitsOf}
+use Rattle.sequence.specs.Sequence.{Follows, onward, run}
+use Rattle.sequence.specs.Patterns.{pattern, secondTap}
 use Rattle.laws.specs.Bits.{unlike}
 use Rattle.pattern.specs.Counting.{fedBits, fresh}
-use Rattle.pattern.specs.Theorems.{Begins, joined, AllFed, errorsFrom, CountsErrors}
+use Rattle.pattern.specs.Theorems.{joined, AllFed, errorsFrom, CountsErrors}
 use Rattle.pattern.specs.declared.counter.Counter.{Counter}
-use Rattle.pattern.proofs.Laws.{below-or}
-use Rattle.pattern.proofs.Digits.{Bits, none, more, highest-number}
-use Rattle.pattern.proofs.Ranges.{taps}
-use Rattle.pattern.proofs.Steps.{length-run}
-use Rattle.pattern.proofs.Recurrence.{run-at}
-use Rattle.pattern.proofs.Fed.{fed-append, fed-filling, fed-full, apart}
+use Rattle.sequence.specs.Claims.{Begins}
+use Rattle.sequence.proofs.Digits.{Bits, none, more, highest-number, bits-bits, bit-number, bits-take}
+use Rattle.sequence.proofs.Numbers.{below-or}
+use Rattle.sequence.proofs.Steps.{length-run}
+use Rattle.sequence.proofs.Recurrence.{run-at}
+use Rattle.pattern.proofs.Fed.{fed-append, fed-filling, fed-full}
 use Rattle.pattern.proofs.Sound.{sound}
-use Rattle.pattern.proofs.Answers.{bits-bits, taken}
+use Rattle.pattern.proofs.Answers.{taken}
+use Rattle.sequence.proofs.Taps.{taps}
+use Rattle.sequence.proofs.Apart.{apart}
 use Rattle.pattern.proofs.Pieces.{all-fed}
-
-highest-at : (k x n : ℕ) → n < k → getD (highest k x) n 0 ≡ bit x (k - 1 - n)
-unfolding highest
-highest-at zero x n h = absurd (not-suc-le-zero h)
-highest-at (suc k) x zero h = let e : k ≡ suc k - 1 - 0 = omega arith in ap (bit x) e
-highest-at (suc k) x (suc n) h = let e : k - 1 - n ≡ suc k - 1 - suc n = omega arith in highest-at k x n (omega arith) ∙ ap (bit x) e
-
-pub bit-number : {xs : List ℕ} → Bits xs → (n : ℕ) → n < length xs → bit (number xs) (length xs - 1 - n) ≡ getD xs n 0
-bit-number {xs} p n h = sym (highest-at (length xs) (number xs) n h) ∙ ap (λ (l : List ℕ). getD l n 0) (highest-number p)
-
-bits-take : (n : ℕ) {xs : List ℕ} → Bits xs → Bits (take n xs)
-bits-take zero p = none
-bits-take (suc n) none = none
-bits-take (suc n) (more h p) = more h (bits-take n p)
 
 apart-errors : (b : ℕ → ℕ) (n : ℕ) (xs ys : List ℕ) → length ys ≡ length xs → ((k : ℕ) → k < length xs → getD ys k 0 ≡ b (n + k)) → apart xs ys ≡ errorsFrom b n xs
 unfolding errorsFrom

@@ -25,46 +25,15 @@ use lib.Bits.{bitXor, xor-block, xor-lt}
 use lib.Count.{ones, ones-cat}
 use lib.ListN.{length}
 use Rattle.laws.proofs.Xor.{bit-ind}
-use Rattle.pattern.specs.Bits.{number}
-use Rattle.pattern.specs.Sequence.{nextBit, step, onward, run}
+use Rattle.sequence.specs.Bits.{number}
+use Rattle.sequence.specs.Sequence.{nextBit, step, onward, run}
 use Rattle.laws.specs.Bits.{unlike}
 use Rattle.pattern.specs.Counting.{filling, comparing, fedBit, fedBits}
 use Rattle.pattern.specs.Private.{Steady}
+use Rattle.sequence.proofs.Apart.{apart, unlike-le}
 use Rattle.pattern.specs.declared.counter.Counter.{Counter}
-use Rattle.pattern.proofs.Laws.{below-or}
-use Rattle.pattern.proofs.Digits.{Bits, none, more, number-lt}
-
-abbrev pub apart : List ℕ → List ℕ → ℕ
-apart [] ys = 0
-apart (x ∷ xs) [] = 0
-apart (x ∷ xs) (y ∷ ys) = unlike x y + apart xs ys
-
-unlike-ones : (x y : ℕ) → x < 2 → y < 2 → ones (bitXor x y) ≡ unlike x y
-unfolding ones
-unlike-ones x y hx hy =
-    bit-ind (λ x. ones (bitXor x y) ≡ unlike x y) (bit-ind (λ y. ones (bitXor 0 y) ≡ unlike 0 y) refl refl y hy)
-    (bit-ind (λ y. ones (bitXor 1 y) ≡ unlike 1 y) refl refl y hy) x hx
-
-pub unlike-le : (x y : ℕ) → unlike x y ≤ 1
-unlike-le x y = go (eqb x y)
-  where
-    go : (t : Bool) → cond t 0 1 ≤ 1
-    go true = omega arith
-    go false = omega arith
-
-pub apart-ones : {xs ys : List ℕ} → Bits xs → Bits ys → length xs ≡ length ys → ones (bitXor (number xs) (number ys)) ≡ apart xs ys
-unfolding ones number
-apart-ones none none e = refl
-apart-ones none (more h p) e = absurd (omega arith)
-apart-ones (more h p) none e = absurd (omega arith)
-apart-ones (more {x} {xs} h p) (more {x = y} {xs = ys} k q) e =
-    let n = length xs in
-    let l : length ys ≡ n = omega arith in
-    let Y = subst (λ (m : ℕ). number ys < 2 ^ m) l (number-lt q) in
-    ap (λ (m : ℕ). ones (bitXor (x * 2 ^ n + number xs) (y * 2 ^ m + number ys))) l
-    ∙ ap ones (xor-block n x y (number xs) (number ys) (number-lt p) Y)
-    ∙ ones-cat n (bitXor x y) (bitXor (number xs) (number ys)) (xor-lt n (number xs) (number ys) (number-lt p) Y)
-    ∙ ap₂ _+_ (unlike-ones x y h k) (apart-ones p q (omega arith))
+use Rattle.sequence.proofs.Numbers.{below-or}
+use Rattle.sequence.proofs.Digits.{Bits, none, more, number-lt}
 
 module _ (L T : ℕ) where
   pub fed-append : (xs ys : List ℕ) (c : Counter) → fedBits L T c (xs ++ ys) ≡ fedBits L T (fedBits L T c xs) ys

@@ -15,31 +15,23 @@ use lib.Dec.{T, ltb, eqb}
 use borrow.Author.Tests.{le-ltb, ltb-false, lt-ltb, eqb-false, ne-eqb, not-false}
 use lib.ListN.{length, getD, length-append}
 use Rattle.laws.specs.Bits.{bit}
-use Rattle.pattern.specs.Bits.{number, highest, bitsOf}
-use Rattle.pattern.specs.Sequence.{onward, run, bytes}
+use Rattle.sequence.specs.Bits.{number, highest, bitsOf}
+use Rattle.sequence.specs.Sequence.{onward, run, bytes}
 use Rattle.paper.specs.Numbers.{mostBytes, unfit, outside, allZero}
-use Rattle.pattern.specs.Patterns.{pattern, secondTap}
+use Rattle.sequence.specs.Patterns.{pattern, secondTap}
 use Rattle.pattern.specs.Generation.{registered, advanced, fillAnswer, fillLeaves}
 use Rattle.pattern.specs.Theorems.{OneFill, Continues, FillsOn, FillsInPieces}
 use Rattle.pattern.specs.declared.generator.Generator.{Generator}
 use Rattle.pattern.specs.declared.generator.Filled.{Filled}
 use Rattle.pattern.specs.declared.generator.Filled.the-variants.{Advanced, Refused}
 use Rattle.laws.proofs.Truth.{true-is}
-use Rattle.pattern.proofs.Laws.{past}
-use Rattle.pattern.proofs.Digits.{highest-number}
-use Rattle.pattern.proofs.Ranges.{taps, registered-pattern, registered-lt}
-use Rattle.pattern.proofs.Steps.{length-run, bits-run, run-add, onward-add, onward-lt}
-use Rattle.pattern.proofs.Buffer.{bytes-add}
-use Rattle.pattern.proofs.Recurrence.{held, run-at, lasts}
-
-pub bits-of-bytes : (L T n r : ℕ) → bitsOf (bytes L T n r) ≡ run L T (8 * n) r
-unfolding bitsOf bytes run
-bits-of-bytes L T zero r = refl
-bits-of-bytes L T (suc n) r =
-    let e : 8 + 8 * n ≡ 8 * suc n = omega arith in
-    let f : highest 8 (number (run L T 8 r)) ≡ run L T 8 r =
-    ap (λ (k : ℕ). highest k (number (run L T 8 r))) (sym (length-run L T 8 r)) ∙ highest-number (bits-run L T 8 r) in
-    ap₂ _++_ f (bits-of-bytes L T n (onward L T 8 r)) ∙ run-add L T 8 (8 * n) r ∙ ap (λ (k : ℕ). run L T k r) e
+use Rattle.pattern.proofs.Tests.{past}
+use Rattle.sequence.proofs.Digits.{highest-number}
+use Rattle.sequence.proofs.Taps.{taps}
+use Rattle.pattern.proofs.Ranges.{registered-pattern, registered-lt}
+use Rattle.sequence.proofs.Steps.{length-run, bits-run, run-add, onward-add, onward-lt}
+use Rattle.sequence.proofs.Buffer.{bytes-add, bits-of-bytes}
+use Rattle.sequence.proofs.Recurrence.{held, run-at, lasts}
 
 pub one-fill : OneFill
 one-fill g before r s x y p q =

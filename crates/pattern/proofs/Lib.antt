@@ -1,9 +1,5 @@
-pub mod Laws
-pub mod Digits
-pub mod Steps
-pub mod Buffer
+pub mod Tests
 pub mod Ranges
-pub mod Recurrence
 pub mod Generated
 pub mod Fed
 pub mod Whole

@@ -15,22 +15,24 @@ use borrow.Author.Tests.{eqb-true}
 use lib.Pow.{low}
 use lib.ListN.{length, getD, take, drop, length-drop}
 use lib.Seq.{take-at, getD-drop}
-use Rattle.pattern.specs.Bits.{number, bitsOf}
-use Rattle.pattern.specs.Sequence.{Follows, onward, run}
+use Rattle.sequence.specs.Bits.{number, bitsOf}
+use Rattle.sequence.specs.Sequence.{Follows, onward, run}
 use Rattle.paper.specs.Numbers.{mostCounted}
-use Rattle.pattern.specs.Patterns.{pattern, secondTap}
+use Rattle.sequence.specs.Patterns.{pattern, secondTap}
 use Rattle.pattern.specs.Generation.{registered}
 use Rattle.pattern.specs.Counting.{fedBits, zeroFilled, fresh, fed}
 use Rattle.pattern.specs.Theorems.{joined, OwnOutput}
 use Rattle.pattern.specs.declared.counter.Counter.{Counter}
-use Rattle.pattern.proofs.Laws.{below-or, never-both}
-use Rattle.pattern.proofs.Ranges.{taps, registered-pattern, registered-lt}
-use Rattle.pattern.proofs.Steps.{length-run, bits-run, run-add, run-lt, onward-add, onward-number}
-use Rattle.pattern.proofs.Recurrence.{run-at, sequence-of, lasts}
-use Rattle.pattern.proofs.Generated.{bits-of-bytes}
+use Rattle.pattern.proofs.Tests.{never-both}
+use Rattle.pattern.proofs.Ranges.{registered-pattern, registered-lt}
+use Rattle.sequence.proofs.Steps.{length-run, bits-run, run-add, run-lt, onward-add, onward-number, filled-by-run}
+use Rattle.sequence.proofs.Recurrence.{run-at, sequence-of, lasts, later-follows}
+use Rattle.sequence.proofs.Numbers.{below-or}
 use Rattle.pattern.proofs.Sound.{Sound, counts, steady, zero-at-end}
 use Rattle.pattern.proofs.Answers.{zero-filled}
 use Rattle.pattern.proofs.Pieces.{feeds-all}
+use Rattle.sequence.proofs.Taps.{taps}
+use Rattle.sequence.proofs.Buffer.{bits-of-bytes}
 use Rattle.pattern.proofs.Counts.{fed-short, fed-long, no-errors, right}
 
 fresh-sound : (p : ℕ) → T (pattern p) → Sound (fresh p)
@@ -41,21 +43,6 @@ fresh-sound p known =
   where
     none : 0 ≡ p → ⊥
     none e = omega (arith, taps p known .2)
-
-filled-by-run : (p t r m : ℕ) → r < 2 ^ p → p ≤ m → number (take p (run p t m r)) ≡ onward p t p r
-filled-by-run p t r m h l =
-    let e : p + (m - p) ≡ m = omega arith in
-    ap (λ (x : List ℕ). number (take p x)) (sym (run-add p t p (m - p) r ∙ ap (λ (k : ℕ). run p t k r) e))
-    ∙ ap number (take-at (run p t p r) (run p t (m - p) (onward p t p r)) p (length-run p t p r))
-    ∙ sym (onward-number p t p r h ∙ low r p (run-lt p t p r))
-
--- the sequence from its bit L on follows the recurrence too
-later-follows : (L T : ℕ) (b : ℕ → ℕ) → T ≤ L → Follows L T b → Follows L T (λ n. b (L + n))
-unfolding Follows
-later-follows L T b h f n l =
-    let x : L + n - L ≡ L + (n - L) = omega arith in
-    let y : L + n - T ≡ L + (n - T) = omega arith in
-    f (L + n) (omega arith) ∙ ap₂ (λ (i j : ℕ). (b i + b j) % 2) x y
 
 module _ (p r m : ℕ) (inside : registered p r ≡ true) (live : r ≡ 0 → ⊥) where
   abbrev tap : ℕ

@@ -17,18 +17,19 @@ use native.Mathlib.Omega.{arith}
 use lib.Dec.{T, eqb}
 use borrow.Author.Tests.{eq-eqb}
 use lib.ListN.{length, length-append}
-use Rattle.pattern.specs.Bits.{bitsOf}
+use Rattle.sequence.specs.Bits.{bitsOf}
 use Rattle.paper.specs.Numbers.{mostBytes, mostCounted}
-use Rattle.pattern.specs.Patterns.{pattern, secondTap}
+use Rattle.sequence.specs.Patterns.{pattern, secondTap}
 use Rattle.pattern.specs.Counting.{fedBit, fedBits, nowZero, zeroFilled, counted, fed}
 use Rattle.pattern.specs.Theorems.{joined, AllFed, AllShort, FeedsOn, FeedsInPieces}
 use Rattle.pattern.specs.declared.counter.Counter.{Counter}
 use Rattle.laws.proofs.Truth.{is-true, neither}
-use Rattle.pattern.proofs.Laws.{or-assoc}
-use Rattle.pattern.proofs.Ranges.{taps}
+use Rattle.pattern.proofs.Tests.{or-assoc}
+use Rattle.sequence.proofs.Taps.{taps}
 use Rattle.pattern.proofs.Fed.{fed-append, steady-fed, pattern-fed, filled-fed, bits-fed}
 use Rattle.pattern.proofs.Sound.{Sound, sound, counts, steady, zero-at-end}
-use Rattle.pattern.proofs.Answers.{bits-bits, bits-join, zero-filled, Taken, taken, take}
+use Rattle.sequence.proofs.Digits.{bits-bits, bits-join}
+use Rattle.pattern.proofs.Answers.{zero-filled, Taken, taken, take}
 
 zero-append : (L T : ℕ) (xs ys : List ℕ) (c : Counter) → zeroFilled L T c (xs ++ ys) ≡ zeroFilled L T c xs || zeroFilled L T (fedBits L T c xs) ys
 unfolding zeroFilled fedBits

@@ -1,37 +1,31 @@
--- What a state in its range is known to have.
--- ┌───────────────┬──────────────────────────────────────────────────┐
--- │ either        │ a pattern is 11 or 31                            │
--- │ registered-lt │ a register in its range is below 2 to its length │
--- │ registered-at │ the same, at a number that equals the pattern    │
--- │ other         │ a pattern that is not 11 is 31                   │
--- │ taps          │ what both patterns' taps have in common          │
--- └───────────────┴──────────────────────────────────────────────────┘
-use mathlib.Core.Path.{_≡_, sym, subst}
-use mathlib.Core.Bool.{true}
-use mathlib.Core.Logic.{_⊎_, inl, inr, ⊎-elim}
-use Prim.Native.Nat.{ℕ, _^_, _≤_, _<_}
+-- What a register in its range is known to have.
+-- ┌────────────────────┬──────────────────────────────────────────────┐
+-- │ registered-pattern │ its pattern is one                           │
+-- │ registered-lt      │ it is below 2 to its length                  │
+-- │ registered-at      │ the same, at a number that equals the pattern │
+-- │ refused-by         │ an answer to a register that something speaks against │
+-- │ allowed            │ a register that nothing speaks against       │
+-- └────────────────────┴──────────────────────────────────────────────┘
+use mathlib.Core.Path.{_≡_, refl, sym, subst}
+use mathlib.Core.Bool.{true, false, cond, not}
+use Prim.Native.Nat.{ℕ, _^_, _<_}
 use native.Mathlib.Omega.{arith}
-use lib.Dec.{T, eqb, ltb, eqb→eq, ltb→lt}
-use Rattle.laws.proofs.Truth.{and-l, and-r, or-cases, is-true}
-use Rattle.pattern.specs.Patterns.{pattern, secondTap}
+use lib.Dec.{T, ltb, eqb, ltb→lt}
+use Rattle.paper.specs.Numbers.{unfit, outside, allZero, mostBytes}
+use Rattle.laws.proofs.Truth.{and-l, and-r, is-true}
+use Rattle.sequence.specs.Patterns.{pattern}
 use Rattle.pattern.specs.Generation.{registered}
+use Rattle.pattern.specs.Private.{fillRefusal}
+use Rattle.pattern.proofs.Tests.{refused, passed}
 
-pub either : (p : ℕ) → T (pattern p) → (p ≡ 11) ⊎ (p ≡ 31)
-either p t = ⊎-elim (λ a. inl (eqb→eq p 11 a)) (λ b. inr (eqb→eq p 31 b)) (or-cases (eqb p 11) (eqb p 31) t)
+pub refused-by :
+    {A : Type 0} (f : ℕ → A) (t : A) (p r n m : ℕ) → m ≡ fillRefusal p r n → (m ≡ 0 → ⊥)
+    → f m ≡ cond (ltb mostBytes n) (f unfit) (cond (not (registered p r)) (f outside) (cond (eqb r 0) (f allZero) t))
+refused-by f t p r n m = refused unfit outside allZero m f t (ltb mostBytes n) (registered p r) (eqb r 0) (eqb r 0) (λ e. refl)
 
-pub other : (p : ℕ) → T (pattern p) → (p ≡ 11 → ⊥) → p ≡ 31
-other p t n = ⊎-elim (λ e. absurd (n e)) (λ e. e) (either p t)
-
--- both patterns have a second tap that is not the newest bit, nor the oldest
-pub taps : (p : ℕ) → T (pattern p) → (0 < secondTap p) × (8 ≤ secondTap p) × (secondTap p < p) × (p < 32)
-taps p t =
-    ⊎-elim (λ e. at 11 (sym e) (omega arith, omega arith, omega arith, omega arith))
-    (λ e. at 31 (sym e) (omega arith, omega arith, omega arith, omega arith)) (either p t)
-  where
-    at :
-        (n : ℕ) → n ≡ p → (0 < secondTap n) × (8 ≤ secondTap n) × (secondTap n < n) × (n < 32)
-        → (0 < secondTap p) × (8 ≤ secondTap p) × (secondTap p < p) × (p < 32)
-    at n e h = subst (λ (k : ℕ). (0 < secondTap k) × (8 ≤ secondTap k) × (secondTap k < k) × (k < 32)) e h
+pub allowed : (p r n : ℕ) → fillRefusal p r n ≡ 0 → (ltb mostBytes n ≡ false) × (registered p r ≡ true) × (eqb r 0 ≡ false)
+allowed p r n e =
+    passed unfit outside allZero 0 (ltb mostBytes n) (registered p r) (eqb r 0) (omega arith) (omega arith) (omega arith) (sym e) refl
 
 module _ (p r : ℕ) (e : registered p r ≡ true) where
   pub registered-pattern : T (pattern p)

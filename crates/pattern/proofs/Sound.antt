@@ -2,6 +2,7 @@
 -- ┌───────────────┬────────────────────────────────────────────────────────────┐
 -- │ Sound c       │ the range of a counter as facts                            │
 -- │ sound, counts │ the test `counted` and the facts say the same              │
+-- │ parts         │ the test `counted` as the code has it                      │
 -- │ steady        │ what a sound counter's steps ask                           │
 -- │ zero-at-end   │ a register was filled with zeros exactly where one is full │
 -- │               │ and zero at the end of the bits                            │
@@ -13,20 +14,21 @@ use mathlib.Core.List.{List, [], _∷_}
 use Prim.Native.Nat.{ℕ, zero, suc, _+_, _-_, _*_, _/_, _%_, _^_, _≤_, _<_}
 use native.Mathlib.Nat.{zero-mod}
 use native.Mathlib.Omega.{arith}
-use lib.Dec.{T, eqb}
+use lib.Dec.{T, eqb, leb, ltb}
 use borrow.Author.Tests.{le-leb, lt-ltb, le-ltb, eq-eqb, ne-eqb, leb-true, ltb-true, eqb-true, eqb-false}
 use lib.Pow.{shr-le}
 use lib.ListN.{length}
-use Rattle.pattern.specs.Sequence.{nextBit, onward}
+use Rattle.sequence.specs.Sequence.{nextBit, onward}
 use Rattle.paper.specs.Numbers.{mostCounted}
-use Rattle.pattern.specs.Patterns.{pattern}
+use Rattle.sequence.specs.Patterns.{pattern}
 use Rattle.pattern.specs.Counting.{filling, fedBits, zeroFilled, counted}
 use Rattle.pattern.specs.Private.{Steady}
 use Rattle.pattern.specs.declared.counter.Counter.{Counter}
 use Rattle.laws.proofs.Truth.{is-true, true-is, two}
-use Rattle.pattern.proofs.Laws.{below-or, seven, all-seven, not-both, the-other, never-both, either-way}
-use Rattle.pattern.proofs.Digits.{Bits, none, more}
-use Rattle.pattern.proofs.Recurrence.{lasts}
+use Rattle.pattern.proofs.Tests.{grouped, seven, all-seven, not-both, the-other, never-both, either-way}
+use Rattle.sequence.proofs.Digits.{Bits, none, more}
+use Rattle.sequence.proofs.Recurrence.{lasts, still}
+use Rattle.sequence.proofs.Numbers.{below-or}
 use Rattle.pattern.proofs.Fed.{while-filling, once-full, fed-full, steady-bit}
 
 pub record Sound (c : Counter) : Type 0 where
@@ -66,6 +68,13 @@ counts c s =
     (le-leb _ _ (s .errors))
     (le-leb _ _ (s .bits))
 
+pub parts : (c : Counter) → counted c
+    ≡ pattern (c .pattern)
+    && ((leb (c .filled) (c .pattern) && ltb (c .register) (2 ^ (c .filled)) && not (eqb (c .filled) (c .pattern) && eqb (c .register) 0))
+    && ((eqb (c .filled) (c .pattern) || eqb (c .bits) 0) && leb (c .errors) (c .bits) && leb (c .bits) mostCounted))
+unfolding counted
+parts c = grouped (pattern (c .pattern)) _ _ _ _ _ _
+
 pub steady : (c : Counter) → Sound c → Steady (c .pattern) c
 steady c s = record { places = s .places; register = s .register; errors = s .errors }
 
@@ -77,16 +86,6 @@ module _ (L T : ℕ) (P : 0 < T) (Q : T < L) where
   not-again (x ∷ xs) c h =
       ap₂ (λ (t : Bool) (d : Counter). t && eqb (d .filled) L && eqb (d .register) 0 || zeroFilled L T d xs) (le-ltb _ _ h) (once-full L T c x h)
       ∙ not-again xs _ h
-
-  zero-bit : (i : ℕ) → 0 / 2 ^ i % 2 ≡ 0
-  zero-bit i = omega (arith, shr-le 0 i)
-
-  still : (n : ℕ) → onward L T n 0 ≡ 0
-  unfolding onward
-  still zero = refl
-  still (suc n) =
-      let b : nextBit L T 0 ≡ 0 = ap₂ (λ (x y : ℕ). (x + y) % 2) (zero-bit (L - 1)) (zero-bit (T - 1)) in
-      ap (λ (x : ℕ). onward L T n ((0 * 2 + x) % 2 ^ L)) b ∙ ap (onward L T n) (zero-mod (2 ^ L)) ∙ still n
 
   abbrev Zero : Counter → Bool
   Zero d = eqb (d .filled) L && eqb (d .register) 0
@@ -105,7 +104,7 @@ module _ (L T : ℕ) (P : 0 < T) (Q : T < L) where
       ∙ end t z
     where
       end : (t : Bool) → eqb (c .register) 0 ≡ t → eqb (onward L T (length xs) (c .register)) 0 ≡ t
-      end true z = eq-eqb _ _ (ap (onward L T (length xs)) (eqb-true _ _ z) ∙ still (length xs))
+      end true z = eq-eqb _ _ (ap (onward L T (length xs)) (eqb-true _ _ z) ∙ still L T (length xs))
       end false z = ne-eqb _ _ (lasts L T P Q (length xs) (c .register) r (eqb-false _ _ z))
 
   abbrev AtEnd : List ℕ → Counter → Type 0

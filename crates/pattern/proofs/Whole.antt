@@ -10,13 +10,14 @@ use native.Mathlib.Nat.{mod-eq-of-lt}
 use native.Mathlib.Omega.{arith}
 use lib.Bits.{bitXor, xor-comm}
 use lib.Count.{ones}
-use Rattle.pattern.specs.Bits.{number, highest}
-use Rattle.pattern.specs.Sequence.{onward, run}
+use Rattle.sequence.specs.Bits.{number, highest}
+use Rattle.sequence.specs.Sequence.{onward, run}
 use Rattle.pattern.specs.Counting.{fedBits}
 use Rattle.pattern.specs.declared.counter.Counter.{Counter}
-use Rattle.pattern.proofs.Digits.{length-highest, bits-highest, number-highest, highest-split, highest-mod}
-use Rattle.pattern.proofs.Steps.{length-run, bits-run}
-use Rattle.pattern.proofs.Fed.{fed-append, fed-filling, fed-full, apart, apart-ones}
+use Rattle.sequence.proofs.Digits.{length-highest, bits-highest, number-highest, highest-split, highest-mod}
+use Rattle.sequence.proofs.Steps.{length-run, bits-run}
+use Rattle.sequence.proofs.Apart.{apart, apart-ones}
+use Rattle.pattern.proofs.Fed.{fed-append, fed-filling, fed-full}
 
 written : (k n : ℕ) → n < 2 ^ k → number (highest k n) ≡ n
 written k n h = number-highest k n ∙ mod-eq-of-lt h

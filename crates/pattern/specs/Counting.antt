@@ -19,10 +19,10 @@ use Prim.Native.Nat.{ℕ, _+_, _*_, _^_}
 use lib.Dec.{leb, ltb, eqb}
 use lib.ListN.{length}
 use Rattle.laws.specs.Bits.{unlike}
-use Rattle.pattern.specs.Bits.{bitsOf}
-use Rattle.pattern.specs.Sequence.{nextBit, step}
+use Rattle.sequence.specs.Bits.{bitsOf}
+use Rattle.sequence.specs.Sequence.{nextBit, step}
 use Rattle.paper.specs.Numbers.{unfit, outside, pastCount, allZero, mostBytes, mostCounted}
-use Rattle.pattern.specs.Patterns.{pattern, secondTap}
+use Rattle.sequence.specs.Patterns.{pattern, secondTap}
 use Rattle.pattern.specs.declared.counter.Counter.{Counter}
 use Rattle.pattern.specs.declared.counter.Opened.{Opened}
 use Rattle.pattern.specs.declared.counter.Opened.the-variants as opened

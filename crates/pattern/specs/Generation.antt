@@ -13,9 +13,9 @@ use mathlib.Core.List.{List}
 use Prim.Native.Nat.{ℕ, _*_, _^_}
 use lib.Dec.{ltb, eqb}
 use lib.ListN.{length}
-use Rattle.pattern.specs.Sequence.{onward, bytes}
+use Rattle.sequence.specs.Sequence.{onward, bytes}
 use Rattle.paper.specs.Numbers.{unfit, outside, allZero, mostBytes}
-use Rattle.pattern.specs.Patterns.{pattern, secondTap}
+use Rattle.sequence.specs.Patterns.{pattern, secondTap}
 use Rattle.pattern.specs.declared.generator.Generator.{Generator}
 use Rattle.pattern.specs.declared.generator.Started.{Started}
 use Rattle.pattern.specs.declared.generator.Started.the-variants as started

@@ -1,6 +1,3 @@
-pub mod Bits
-pub mod Sequence
-pub mod Patterns
 pub mod Generation
 pub mod Counting
 pub mod Reporting

@@ -1,13 +1,35 @@
--- What the counter's private steps ask of their callers.
+-- What the private steps ask of their callers and tell them.
 -- ┌───────────────────┬─────────────────────────────────────────────────────────────┐
+-- │ fillRefusal p r n │ the number that refuses a buffer of n bytes, or 0           │
+-- │ Runs p r b q a    │ the register r is q after the buffer b is filled, which     │
+-- │                   │ is a then                                                   │
 -- │ Taps l t          │ a byte reaches no tap of its own, and shifts stay in a word │
 -- │ Steady l c        │ what every bit fed keeps of a state                         │
 -- │ Filling l c n k   │ there is room for the k bits of n                           │
 -- │ Comparing l c n k │ the register is full, and n is k bits                       │
+-- │ compared c n      │ the bits compared after n bytes more                        │
+-- │ feedRefusal c n   │ the number that refuses a piece of n bytes before it is     │
+-- │                   │ fed, or 0                                                   │
 -- └───────────────────┴─────────────────────────────────────────────────────────────┘
 use mathlib.Core.Path.{_≡_}
-use Prim.Native.Nat.{ℕ, _+_, _^_, _≤_, _<_}
+use mathlib.Core.Bool.{cond, not}
+use mathlib.Core.List.{List}
+use Prim.Native.Nat.{ℕ, _+_, _-_, _*_, _^_, _≤_, _<_}
+use lib.Dec.{ltb, eqb}
+use lib.ListN.{length}
+use Rattle.paper.specs.Numbers.{unfit, outside, pastCount, allZero, mostBytes, mostCounted}
+use Rattle.sequence.specs.Sequence.{onward, bytes}
+use Rattle.sequence.specs.Patterns.{secondTap}
+use Rattle.pattern.specs.Generation.{registered}
+use Rattle.pattern.specs.Counting.{counted}
 use Rattle.pattern.specs.declared.counter.Counter.{Counter}
+
+abbrev pub fillRefusal : ℕ → ℕ → ℕ → ℕ
+fillRefusal p r n = cond (ltb mostBytes n) unfit (cond (not (registered p r)) outside (cond (eqb r 0) allZero 0))
+
+pub record Runs (p r : ℕ) (before : List ℕ) (q : ℕ) (after : List ℕ) : Type 0 where
+  pub register : q ≡ onward p (secondTap p) (8 * length before) r
+  pub buffer : after ≡ bytes p (secondTap p) (length before) r
 
 pub record Taps (l t : ℕ) : Type 0 where
   pub byte : 8 ≤ t
@@ -33,3 +55,10 @@ pub record Comparing (l : ℕ) (c : Counter) (n k : ℕ) : Type 0 where
   pub room : c .bits < 2 ^ 55
   pub bits : n < 2 ^ k
   pub byte : k ≤ 8
+
+abbrev pub compared : Counter → ℕ → ℕ
+compared c n = c .bits + (8 * n - (c .pattern - c .filled))
+
+abbrev pub feedRefusal : Counter → ℕ → ℕ
+feedRefusal c n =
+    cond (ltb mostBytes n) unfit (cond (not (counted c)) outside (cond (ltb mostCounted (compared c n)) pastCount 0))

@@ -1,8 +1,8 @@
 -- What the report answers.
 -- ┌────────────────┬────────────────────────────────────────────────────────────────┐
 -- │ over a b       │ one 64-bit floating division of two whole numbers              │
--- │ reportAnswer c │ the answer of `report`: the ratio where errors are found, else │
--- │                │ the ceiling 3 / bits                                           │
+-- │ rate b e       │ the ratio where errors are found, else the ceiling 3 / bits    │
+-- │ reportAnswer c │ the answer of `report`                                         │
 -- └────────────────┴────────────────────────────────────────────────────────────────┘
 use mathlib.Core.Bool.{cond, not}
 use Prim.Native.Nat.{ℕ}
@@ -18,8 +18,10 @@ use Rattle.pattern.specs.declared.report.Report.the-variants.{Measured, 
 abbrev pub over : ℕ → ℕ → Float
 over a b = div binary64 (ofInt binary64 (pos a)) (ofInt binary64 (pos b))
 
+abbrev pub rate : ℕ → ℕ → Report
+rate b e = cond (eqb e 0) (Ceiling b e (over 3 b)) (Measured b e (over e b))
+
 abbrev pub reportAnswer : Counter → Report
 reportAnswer c =
     cond (not (counted c)) (Refused outside)
-    (cond (eqb (c .bits) 0) (Refused nothingCompared)
-    (cond (eqb (c .errors) 0) (Ceiling (c .bits) (c .errors) (over 3 (c .bits))) (Measured (c .bits) (c .errors) (over (c .errors) (c .bits)))))
+    (cond (eqb (c .bits) 0) (Refused nothingCompared) (rate (c .bits) (c .errors)))

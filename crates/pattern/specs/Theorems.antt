@@ -1,9 +1,5 @@
 -- What is proved beside the contracts, each for both patterns at once: over the length L and the second tap T, or over the pattern p.
 -- ┌──────────────────┬─────────────────────────────────────────────────────────────────┐
--- │ Begins L r b     │ the first L bits of b are those of the register r, oldest first │
--- │ OneSequence      │ two sequences that follow the recurrence and agree on L bits    │
--- │                  │ are equal                                                       │
--- │ SomeSequence     │ each register begins a sequence that follows the recurrence     │
 -- │ OneFill          │ no second answer fits the promise of `fill`                     │
 -- │ Continues        │ a filled buffer is that sequence from its bit L on, and the     │
 -- │                  │ register that comes back is its last L bits, the oldest highest │
@@ -33,10 +29,11 @@ use lib.IntN.{pos}
 use lib.Ieee.{binary64, ofInt, toUnsigned, round}
 use lib.Ieee.Exact.{HasValue}
 use Rattle.laws.specs.Bits.{bit}
-use Rattle.pattern.specs.Bits.{bitsOf}
-use Rattle.pattern.specs.Sequence.{Follows, bytes}
+use Rattle.sequence.specs.Bits.{bitsOf}
+use Rattle.sequence.specs.Sequence.{Follows, bytes}
+use Rattle.sequence.specs.Claims.{Begins}
 use Rattle.paper.specs.Numbers.{mostBytes, mostCounted}
-use Rattle.pattern.specs.Patterns.{secondTap}
+use Rattle.sequence.specs.Patterns.{secondTap}
 use Rattle.pattern.specs.Generation.{registered, Fills, fillAnswer, advanced}
 use Rattle.laws.specs.Bits.{unlike}
 use Rattle.pattern.specs.Counting.{counted, fresh, feedAnswer}
@@ -46,17 +43,6 @@ use Rattle.pattern.specs.declared.counter.Fed.the-variants.{Counted}
 use Rattle.pattern.specs.declared.generator.Generator.{Generator}
 use Rattle.pattern.specs.declared.generator.Filled.{Filled}
 use Rattle.pattern.specs.declared.generator.Filled.the-variants.{Advanced}
-
-abbrev pub Begins : ℕ → ℕ → (ℕ → ℕ) → Type 0
-Begins L r b = (n : ℕ) → n < L → b n ≡ bit r (L - 1 - n)
-
-abbrev pub OneSequence : Type 0
-OneSequence =
-    (L T : ℕ) → 0 < T → T ≤ L → (b c : ℕ → ℕ)
-    → Follows L T b → Follows L T c → ((n : ℕ) → n < L → b n ≡ c n) → (n : ℕ) → b n ≡ c n
-
-abbrev pub SomeSequence : Type 0
-SomeSequence = (L T r : ℕ) → 0 < T → T < L → r < 2 ^ L → (b : ℕ → ℕ) × (Follows L T b × Begins L r b)
 
 abbrev pub OneFill : Type 0
 OneFill =

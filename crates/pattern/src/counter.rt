@@ -1,15 +1,16 @@
 // The counter of errors: received bits fill its register, and from then on are compared.
 ghost use mathlib.Core.Path.{_≡_};
-ghost use Prim.Native.Nat.{_+_, _*_, _≤_, _<_, _^_};
-ghost use lib.Dec.{T};
+ghost use Prim.Native.Nat.{_+_, _-_, _*_, _≤_, _<_, _^_};
+ghost use lib.Dec.{ltb};
 ghost use lib.ListN.{length};
-ghost use Rattle.pattern.specs.Bits.{highest, bitsOf};
-ghost use Rattle.paper.specs.Numbers.{mostBytes};
-ghost use Rattle.pattern.specs.Patterns.{pattern, secondTap};
+ghost use Rattle.sequence.specs.Bits.{highest, bitsOf};
+ghost use Rattle.paper.specs.Numbers.{mostBytes, mostCounted};
+ghost use Rattle.sequence.specs.Patterns.{secondTap};
 ghost use Rattle.pattern.specs.Counting.{fedBits, freshAnswer, feedAnswer};
-ghost use Rattle.pattern.specs.Private.{Taps, Steady, Filling, Comparing};
-use crate::range::in_range_at;
-use crate::sequence;
+ghost use Rattle.pattern.specs.Private.{Taps, Steady, Filling, Comparing, feedRefusal};
+use crate::range::in_range;
+use crate::range::known;
+use crate::steps;
 use paper::ALL_ZERO;
 use paper::MOST_BYTES;
 use paper::MOST_COUNTED;
@@ -56,9 +57,9 @@ fn compare_bits(c: Counter, l: u64, t: u64, n: u64, k: u64) -> Counter
     requires { ⌜ Taps l t × Comparing l c n k ⌝ }
     ensures { λ r. ⌜ r ≡ fedBits l t c (highest k n) ⌝ }
 {
-    let next = sequence::ahead(c.register, l, t, k);
+    let next = steps::ahead(c.register, l, t, k);
     let wrong = u64::count_ones(next ^ n) as u64;
-    let register = sequence::moved(c.register, l, t, k, next);
+    let register = steps::moved(c.register, l, t, k, next);
     Counter {
         pattern: c.pattern,
         filled: c.filled,
@@ -99,27 +100,43 @@ fn feed_bytes(c: Counter, l: u64, t: u64, piece: &[u8]) -> Counter
     d
 }
 
-// The answer to a piece that is short enough, at the taps of the counter's pattern.
+// Whether n bytes more would take the bits compared past the limit, where a register of l places has some filled.
+fn past_count(l: u64, filled: u64, bits: u64, n: usize) -> bool
+    requires { ⌜ (filled ≤ l) × (l < 32) × (bits ≤ mostCounted) × (n ≤ mostBytes) ⌝ }
+    ensures { λ r. ⌜ r ≡ ltb mostCounted (bits + (8 * n - (l - filled))) ⌝ }
+{
+    bits + n as u64 * 8 > MOST_COUNTED + (l - filled)
+}
+
+// What speaks against a piece of n bytes before any of it is fed; 0 where nothing does.
+fn refusal(c: Counter, n: usize) -> u8
+    ensures { λ r. ⌜ r ≡ feedRefusal c n ⌝ }
+{
+    if n > MOST_BYTES {
+        return UNFIT;
+    }
+    if in_range(c) {
+        if past_count(c.pattern as u64, c.filled, c.bits, n) {
+            return PAST_COUNT;
+        }
+        return 0;
+    }
+    OUTSIDE
+}
+
+// The answer to a piece that nothing speaks against, at the taps of the counter's pattern.
 fn feed_at(c: Counter, l: u64, t: u64, piece: &[u8]) -> Fed
-    requires { ⌜ (c .pattern ≡ l) × T (pattern l) × (t ≡ secondTap l) × (length (now piece) ≤ mostBytes) ⌝ }
+    requires { ⌜ (c .pattern ≡ l) × (t ≡ secondTap l) × (feedRefusal c (length (now piece)) ≡ 0) ⌝ }
     ensures { λ r. ⌜ r ≡ feedAnswer c (now (piece .entry)) ⌝ }
 {
-    if in_range_at(c, l) {
-        let all = piece.len() as u64 * 8;
-        let room = l - c.filled;
-        if c.bits + all > MOST_COUNTED + room {
-            return Fed::Refused(PAST_COUNT);
+    let d = feed_bytes(c, l, t, piece);
+    // A full register is zero now exactly where it was when it was filled.
+    if d.filled == l {
+        if d.register == 0 {
+            return Fed::Refused(ALL_ZERO);
         }
-        let d = feed_bytes(c, l, t, piece);
-        // A full register is zero now exactly where it was when it was filled.
-        if d.filled == l {
-            if d.register == 0 {
-                return Fed::Refused(ALL_ZERO);
-            }
-        }
-        return Fed::Counted(d);
     }
-    Fed::Refused(OUTSIDE)
+    Fed::Counted(d)
 }
 
 impl Counter {
@@ -127,18 +144,16 @@ impl Counter {
     pub fn fresh(pattern: u8) -> Opened
         ensures { λ r. ⌜ r ≡ freshAnswer pattern ⌝ }
     {
-        if pattern != 11 {
-            if pattern != 31 {
-                return Opened::Refused(OUTSIDE);
-            }
+        if known(pattern) {
+            return Opened::Fresh(Counter {
+                pattern,
+                filled: 0,
+                register: 0,
+                bits: 0,
+                errors: 0,
+            });
         }
-        Opened::Fresh(Counter {
-            pattern,
-            filled: 0,
-            register: 0,
-            bits: 0,
-            errors: 0,
-        })
+        Opened::Refused(OUTSIDE)
     }
 
     // 12: more than 65,536 bytes; 11: a state out of its range; 20: more than 2^53 - 1 bits compared; 18: the register filled with
@@ -146,16 +161,13 @@ impl Counter {
     pub fn feed(self, piece: &[u8]) -> Fed
         ensures { λ r. ⌜ r ≡ feedAnswer self (now (piece .entry)) ⌝ }
     {
-        let pattern = self.pattern;
-        if piece.len() > MOST_BYTES {
-            return Fed::Refused(UNFIT);
+        let n = refusal(self, piece.len());
+        if n != 0 {
+            return Fed::Refused(n);
         }
-        if pattern == 11 {
+        if self.pattern == 11 {
             return feed_at(self, 11, 9, piece);
         }
-        if pattern == 31 {
-            return feed_at(self, 31, 28, piece);
-        }
-        Fed::Refused(OUTSIDE)
+        feed_at(self, 31, 28, piece)
     }
 }

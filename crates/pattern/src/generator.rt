@@ -1,10 +1,12 @@
 // The generator: a pattern's register, which fills lent buffers.
 ghost use mathlib.Core.Path.{_≡_};
+ghost use mathlib.Core.Bool.{true};
 ghost use Prim.Native.Nat.{_*_, _≤_, _<_, _^_};
 ghost use lib.ListN.{length};
-ghost use Rattle.pattern.specs.Sequence.{onward, bytes};
+ghost use Rattle.sequence.specs.Sequence.{onward, bytes};
 ghost use Rattle.pattern.specs.Generation.{registered, startAnswer, Fills};
-use crate::sequence;
+ghost use Rattle.pattern.specs.Private.{fillRefusal, Runs};
+use crate::steps;
 use paper::ALL_ZERO;
 use paper::MOST_BYTES;
 use paper::OUTSIDE;
@@ -35,9 +37,9 @@ fn fill_bytes(r: u64, l: u64, t: u64, out: &mut [u8]) -> u64
     let mut q = r;
     let mut i = 0;
     while i < out.len() {
-        let byte = sequence::ahead(q, l, t, 8);
+        let byte = steps::ahead(q, l, t, 8);
         out[i] = byte as u8;
-        q = sequence::moved(q, l, t, 8, byte);
+        q = steps::moved(q, l, t, 8, byte);
         i += 1;
     }
     q
@@ -55,18 +57,44 @@ fn in_range(pattern: u8, register: u64) -> bool
     false
 }
 
+// What speaks against a buffer of n bytes, which a start has none of; 0 where nothing does.
+fn refusal(pattern: u8, register: u64, n: usize) -> u8
+    ensures { λ r. ⌜ r ≡ fillRefusal pattern register n ⌝ }
+{
+    let inside = in_range(pattern, register);
+    if n > MOST_BYTES {
+        return UNFIT;
+    }
+    if !inside {
+        return OUTSIDE;
+    }
+    if register == 0 {
+        return ALL_ZERO;
+    }
+    0
+}
+
+// The register after a buffer that is filled at the taps of its pattern.
+fn fill_at(pattern: u8, register: u64, out: &mut [u8]) -> u64
+    requires { ⌜ registered pattern register ≡ true ⌝ }
+    ensures { λ q. ⌜ Runs pattern register (now (out .entry)) q (now (out .exit)) ⌝ }
+{
+    if pattern == 11 {
+        return fill_bytes(register, 11, 9, out);
+    }
+    fill_bytes(register, 31, 28, out)
+}
+
 impl Generator {
     // 11: no such pattern, or a register of more bits than it has; 18: all of them zero.
     pub fn start(pattern: u8, register: u64) -> Started
         ensures { λ r. ⌜ r ≡ startAnswer pattern register ⌝ }
     {
-        if in_range(pattern, register) {
-            if register == 0 {
-                return Started::Refused(ALL_ZERO);
-            }
-            return Started::Ready(Generator { pattern, register });
+        let n = refusal(pattern, register, 0);
+        if n != 0 {
+            return Started::Refused(n);
         }
-        Started::Refused(OUTSIDE)
+        Started::Ready(Generator { pattern, register })
     }
 
     // 12: more than 65,536 bytes; 11, 18: as at the start. Otherwise every byte of `out` is the pattern's, the first bit highest,
@@ -74,28 +102,14 @@ impl Generator {
     pub fn fill(self, out: &mut [u8]) -> Filled
         ensures { λ r. ⌜ Fills self (now (out .entry)) r (now (out .exit)) ⌝ }
     {
-        let pattern = self.pattern;
-        let register = self.register;
-        if out.len() > MOST_BYTES {
-            return Filled::Refused(UNFIT);
+        let n = refusal(self.pattern, self.register, out.len());
+        if n != 0 {
+            return Filled::Refused(n);
         }
-        if in_range(pattern, register) {
-            if register == 0 {
-                return Filled::Refused(ALL_ZERO);
-            }
-            if pattern == 11 {
-                let q = fill_bytes(register, 11, 9, out);
-                return Filled::Advanced(Generator {
-                    pattern,
-                    register: q,
-                });
-            }
-            let q = fill_bytes(register, 31, 28, out);
-            return Filled::Advanced(Generator {
-                pattern,
-                register: q,
-            });
-        }
-        Filled::Refused(OUTSIDE)
+        let register = fill_at(self.pattern, self.register, out);
+        Filled::Advanced(Generator {
+            pattern: self.pattern,
+            register,
+        })
     }
 }

@@ -3,7 +3,7 @@ mod counter;
 mod generator;
 mod range;
 mod report;
-mod sequence;
+mod steps;
 
 pub use counter::Counter;
 pub use counter::Fed;

@@ -1,54 +1,61 @@
-// The range of a counter that is handed in.
+// Which patterns there are, and the range of a counter that is handed in.
 ghost use mathlib.Core.Path.{_≡_};
-ghost use mathlib.Core.Bool.{_&&_};
-ghost use lib.Dec.{T, leb};
+ghost use mathlib.Core.Bool.{not, _&&_, _||_};
+ghost use Prim.Native.Nat.{_<_, _^_};
+ghost use lib.Dec.{leb, ltb, eqb};
 ghost use Rattle.paper.specs.Numbers.{mostCounted};
-ghost use Rattle.pattern.specs.Patterns.{pattern};
+ghost use Rattle.sequence.specs.Patterns.{pattern};
 ghost use Rattle.pattern.specs.Counting.{counted};
 use crate::counter::Counter;
 use paper::MOST_COUNTED;
 
-fn sums_in_range(bits: u64, errors: u64) -> bool
-    ensures { λ r. ⌜ r ≡ leb errors bits && leb bits mostCounted ⌝ }
+pub(crate) fn known(number: u8) -> bool
+    ensures { λ r. ⌜ r ≡ pattern number ⌝ }
+{
+    if number == 11 {
+        return true;
+    }
+    number == 31
+}
+
+// A register of l places.
+fn register_in_range(l: u64, filled: u64, register: u64) -> bool
+    requires { ⌜ l < 64 ⌝ }
+    ensures { λ r. ⌜ r ≡ leb filled l && ltb register (2 ^ filled) && not (eqb filled l && eqb register 0) ⌝ }
+{
+    if filled > l {
+        return false;
+    }
+    if register >= 1 << filled {
+        return false;
+    }
+    if filled == l {
+        return register != 0;
+    }
+    true
+}
+
+// The sums of a register of l places.
+fn sums_in_range(l: u64, filled: u64, bits: u64, errors: u64) -> bool
+    ensures { λ r. ⌜ r ≡ (eqb filled l || eqb bits 0) && leb errors bits && leb bits mostCounted ⌝ }
 {
     if errors > bits {
         return false;
     }
-    bits <= MOST_COUNTED
-}
-
-pub(crate) fn in_range_at(c: Counter, l: u64) -> bool
-    requires { ⌜ (c .pattern ≡ l) × T (pattern l) ⌝ }
-    ensures { λ r. ⌜ r ≡ counted c ⌝ }
-{
-    let bits = c.bits;
-    if c.filled > l {
-        return false;
+    if filled == l {
+        return bits <= MOST_COUNTED;
     }
-    if c.register >= 1 << c.filled {
-        return false;
-    }
-    if c.filled == l {
-        if c.register == 0 {
-            return false;
-        }
-        return sums_in_range(bits, c.errors);
-    }
-    if bits > 0 {
-        return false;
-    }
-    sums_in_range(bits, c.errors)
+    bits == 0
 }
 
 pub(crate) fn in_range(c: Counter) -> bool
     ensures { λ r. ⌜ r ≡ counted c ⌝ }
 {
-    let pattern = c.pattern;
-    if pattern == 11 {
-        return in_range_at(c, 11);
-    }
-    if pattern == 31 {
-        return in_range_at(c, 31);
+    let l = c.pattern as u64;
+    if known(c.pattern) {
+        if register_in_range(l, c.filled, c.register) {
+            return sums_in_range(l, c.filled, c.bits, c.errors);
+        }
     }
     false
 }

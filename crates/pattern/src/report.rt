@@ -1,8 +1,12 @@
 // The counter's report: bits compared, errors, and how often they came.
 ghost use mathlib.Core.Path.{_≡_};
-ghost use Rattle.pattern.specs.Reporting.{reportAnswer};
+ghost use Prim.Native.Nat.{_≤_, _<_};
+ghost use Rattle.paper.specs.Numbers.{mostCounted};
+ghost use Rattle.pattern.specs.Reporting.{rate, reportAnswer};
 use crate::counter::Counter;
 use crate::range;
+use paper::NOTHING_COMPARED;
+use paper::OUTSIDE;
 
 pub enum Report {
     // Errors were found: their ratio to the bits.
@@ -20,30 +24,37 @@ pub enum Report {
     Refused(u8),
 }
 
+fn rated(bits: u64, errors: u64) -> Report
+    requires { ⌜ (bits ≤ mostCounted) × (errors ≤ bits) ⌝ }
+    ensures { λ r. ⌜ r ≡ rate bits errors ⌝ }
+{
+    if errors == 0 {
+        return Report::Ceiling {
+            bits,
+            errors,
+            ceiling: 3.0 / (bits as f64),
+        };
+    }
+    Report::Measured {
+        bits,
+        errors,
+        ratio: (errors as f64) / (bits as f64),
+    }
+}
+
 impl Counter {
     // 11: a state out of its range; 19: nothing compared.
     pub fn report(self) -> Report
         ensures { λ r. ⌜ r ≡ reportAnswer self ⌝ }
     {
+        let known = range::in_range(self);
         let bits = self.bits;
-        let errors = self.errors;
-        if range::in_range(self) {
-            if bits == 0 {
-                return Report::Refused(paper::NOTHING_COMPARED);
-            }
-            if errors == 0 {
-                return Report::Ceiling {
-                    bits,
-                    errors,
-                    ceiling: 3.0 / (bits as f64),
-                };
-            }
-            return Report::Measured {
-                bits,
-                errors,
-                ratio: (errors as f64) / (bits as f64),
-            };
+        if !known {
+            return Report::Refused(OUTSIDE);
         }
-        Report::Refused(paper::OUTSIDE)
+        if bits == 0 {
+            return Report::Refused(NOTHING_COMPARED);
+        }
+        rated(bits, self.errors)
     }
 }

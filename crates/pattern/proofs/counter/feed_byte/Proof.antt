@@ -5,12 +5,12 @@ use native.Mathlib.Nat.{mod-lt}
 use native.Mathlib.Omega.{arith}
 use borrow.Author.Needs.{needs}
 use lib.Pow.{pow-pos, shr-lt}
-use Rattle.pattern.specs.Bits.{highest}
+use Rattle.sequence.specs.Bits.{highest}
 use Rattle.pattern.specs.Counting.{fedBits}
 use Rattle.pattern.specs.Private.{Steady}
 use Rattle.pattern.specs.declared.counter.Counter.{Counter}
-use Rattle.pattern.proofs.Laws.{one-shl}
-use Rattle.pattern.proofs.Digits.{bits-highest}
+use Rattle.sequence.proofs.Numbers.{one-shl}
+use Rattle.sequence.proofs.Digits.{bits-highest}
 use Rattle.pattern.proofs.Fed.{steady-fed}
 use Rattle.pattern.proofs.Whole.{fed-filling-by, fed-split}
 use Rattle.pattern.proofs.counter.feed_byte.Statement.{statement}

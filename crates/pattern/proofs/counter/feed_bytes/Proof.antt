@@ -6,11 +6,11 @@ use native.Mathlib.Numerals.{add-one}
 use native.Mathlib.Omega.{arith}
 use lib.ListN.{length, drop, getD}
 use lib.Seq.{drop-cons, drop-length}
-use Rattle.pattern.specs.Bits.{highest, bitsOf}
+use Rattle.sequence.specs.Bits.{highest, bitsOf}
 use Rattle.pattern.specs.Counting.{fedBits}
 use Rattle.pattern.specs.Private.{Steady}
 use Rattle.pattern.specs.declared.counter.Counter.{Counter}
-use Rattle.pattern.proofs.Digits.{length-highest, bits-highest}
+use Rattle.sequence.proofs.Digits.{length-highest, bits-highest}
 use Rattle.pattern.proofs.Fed.{fed-append, steady-fed, bits-fed}
 use Rattle.pattern.proofs.counter.feed_bytes.Statement.{statement}
 use Rattle.pattern.proofs.counter.feed_bytes.Tie as tie

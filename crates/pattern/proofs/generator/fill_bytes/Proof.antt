@@ -4,9 +4,9 @@ use mathlib.Core.List.{List}
 use Prim.Native.Nat.{ℕ, _-_, _*_, _^_, _≤_, _<_}
 use native.Mathlib.Omega.{arith}
 use lib.ListN.{length, set, length-set}
-use Rattle.pattern.specs.Bits.{number}
-use Rattle.pattern.specs.Sequence.{onward, run}
-use Rattle.pattern.proofs.Buffer.{upto, upto-none, upto-more, upto-all, onward-byte, onward-none}
+use Rattle.sequence.specs.Bits.{number}
+use Rattle.sequence.specs.Sequence.{onward, run}
+use Rattle.sequence.proofs.Buffer.{upto, upto-none, upto-more, upto-all, onward-byte, onward-none}
 use Rattle.pattern.proofs.generator.fill_bytes.Statement.{statement}
 use Rattle.pattern.proofs.generator.fill_bytes.Tie as tie
 

@@ -1,25 +1,50 @@
--- Of a pattern that is neither, `counted` is false.
-use mathlib.Core.Path.{sym}
+-- The test in three parts, as the law `parts` has it.
+use mathlib.Core.Path.{sym, _∙_}
+use native.Mathlib.Omega.{arith}
 use borrow.Author.Needs.{needs}
-use Rattle.pattern.proofs.Answers.{unknown}
+use Rattle.laws.proofs.Truth.{is-true}
+use Rattle.sequence.specs.Patterns.{pattern}
+use Rattle.sequence.proofs.Taps.{taps}
+use Rattle.pattern.proofs.Sound.{parts}
 use Rattle.pattern.proofs.range.in_range.Statement.{statement}
 use Rattle.pattern.proofs.range.in_range.Tie as tie
 
-in-range-at-requires : tie.Need-in-range-at-requires
-in-range-at-requires c κs = search needs
+cast-l : tie.Need-cast-l
+cast-l c = search needs
+
+known-requires : tie.Need-known-requires
+known-requires c κs = search needs
+
+register-in-range-requires : tie.Need-register-in-range-requires
+register-in-range-requires c κs =
+    let p = c .before .before .before .args .c .pattern in
+    omega (arith, taps p (is-true {t = pattern p} (sym (c .before .known .ensures) ∙ c .if1 .taken)) .3)
+
+sums-in-range-requires : tie.Need-sums-in-range-requires
+sums-in-range-requires c κs = search needs
 
 returns : tie.Need-returns
-returns c = search needs
-
-in-range-at-requires-2 : tie.Need-in-range-at-requires-2
-in-range-at-requires-2 c κs = search needs
+returns c =
+    let d = c .before .before in
+    c .sums-in-range .ensures
+    ∙ sym (parts _ ∙ simp (sym (d .before .before .known .ensures) ∙ d .before .if1 .taken, sym (d .register-in-range .ensures) ∙ c .before .if2 .taken))
 
 returns-2 : tie.Need-returns-2
-returns-2 c = search needs
+returns-2 c =
+    let d = c .before in
+    sym (parts _ ∙ simp (sym (d .before .before .known .ensures) ∙ d .before .if1 .taken, sym (d .register-in-range .ensures) ∙ c .if2 .left))
 
 returns-3 : tie.Need-returns-3
-returns-3 c = sym (unknown (c .before .before .args .c) (c .before .if1 .left) (c .if2 .left))
+returns-3 c = sym (parts _ ∙ simp (sym (c .before .known .ensures) ∙ c .if1 .left))
 
 pub in-range-spec : {M : Type 1} → statement M
 in-range-spec =
-    tie.close (tie.spec in-range-at-requires returns in-range-at-requires-2 returns-2 returns-3)
+    tie.close
+    (tie.spec
+    cast-l
+    known-requires
+    register-in-range-requires
+    sums-in-range-requires
+    returns
+    returns-2
+    returns-3)

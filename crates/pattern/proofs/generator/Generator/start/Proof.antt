@@ -1,21 +1,24 @@
--- Each return rewrites with the tests that led there.
+-- A refusal is the law `refused-by`, at no bytes.
 use mathlib.Core.Path.{sym, _∙_}
-use borrow.Author.Tests.{eq-eqb, ne-eqb}
 use borrow.Author.Needs.{needs}
+use Rattle.pattern.specs.declared.generator.Started.the-variants.{Ready, Refused}
+use Rattle.pattern.proofs.Ranges.{refused-by, allowed}
 use Rattle.pattern.proofs.generator.Generator.start.Statement.{statement}
 use Rattle.pattern.proofs.generator.Generator.start.Tie as tie
 
-in-range-requires : tie.Need-in-range-requires
-in-range-requires c κs = search needs
+refusal-requires : tie.Need-refusal-requires
+refusal-requires c κs = search needs
 
 returns : tie.Need-returns
-returns c = simp (sym (c .before .before .in-range .ensures) ∙ c .before .if1 .taken, eq-eqb _ _ (c .if2 .taken))
+returns c =
+    let a = c .before .before .args in
+    refused-by Refused (Ready (record { pattern = a .pattern; register = a .register })) (a .pattern) (a .register) 0 _ (c .before .refusal .ensures) (c .if1 .taken)
 
 returns-2 : tie.Need-returns-2
-returns-2 c = simp (sym (c .before .before .in-range .ensures) ∙ c .before .if1 .taken, ne-eqb _ _ (c .if2 .left))
-
-returns-3 : tie.Need-returns-3
-returns-3 c = simp (sym (c .before .in-range .ensures) ∙ c .if1 .left)
+returns-2 c =
+    let a = c .before .before .args in
+    let e = allowed (a .pattern) (a .register) 0 (sym (c .before .refusal .ensures) ∙ c .if1 .left) in
+    simp (e .1, e .2)
 
 pub start-spec : {M : Type 1} → statement M
-start-spec = tie.close (tie.spec in-range-requires returns returns-2 returns-3)
+start-spec = tie.close (tie.spec refusal-requires returns returns-2)

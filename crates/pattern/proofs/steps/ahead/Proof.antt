@@ -5,12 +5,12 @@ use native.Mathlib.Omega.{arith}
 use borrow.Author.Needs.{needs}
 use lib.Bits.{bitXor}
 use lib.Pow.{pow-pos, shl-exact}
-use Rattle.pattern.specs.Bits.{number}
-use Rattle.pattern.specs.Sequence.{run}
-use Rattle.pattern.proofs.Laws.{one-shl}
-use Rattle.pattern.proofs.Steps.{ahead-number, run-lt}
-use Rattle.pattern.proofs.sequence.ahead.Statement.{statement}
-use Rattle.pattern.proofs.sequence.ahead.Tie as tie
+use Rattle.sequence.specs.Bits.{number}
+use Rattle.sequence.specs.Sequence.{run}
+use Rattle.sequence.proofs.Numbers.{one-shl}
+use Rattle.sequence.proofs.Steps.{ahead-number, run-lt}
+use Rattle.pattern.proofs.steps.ahead.Statement.{statement}
+use Rattle.pattern.proofs.steps.ahead.Tie as tie
 
 sub-result : tie.Need-sub-result
 sub-result c = search needs

@@ -13,7 +13,7 @@ use mathlib.Core.Path.{_≡_}
 use mathlib.Core.List.{List, [], _∷_}
 use Prim.Native.Nat.{ℕ, zero, suc, _+_, _-_, _*_, _%_, _^_, _≤_}
 use Rattle.laws.specs.Bits.{bit}
-use Rattle.pattern.specs.Bits.{number}
+use Rattle.sequence.specs.Bits.{number}
 
 unfoldable pub Follows : ℕ → ℕ → (ℕ → ℕ) → Type 0
 Follows L T b = (n : ℕ) → L ≤ n → b n ≡ (b (n - L) + b (n - T)) % 2

@@ -4,11 +4,11 @@ use Prim.Native.Nat.{ℕ, _+_, _*_, _%_, _^_, _<_}
 use native.Mathlib.Omega.{arith}
 use borrow.Author.Needs.{needs}
 use lib.Pow.{pow-pos, pow-mono, shl-lt, shl-exact}
-use Rattle.pattern.specs.Sequence.{onward}
-use Rattle.pattern.proofs.Laws.{one-shl}
-use Rattle.pattern.proofs.Steps.{onward-number, onward-lt}
-use Rattle.pattern.proofs.sequence.moved.Statement.{statement}
-use Rattle.pattern.proofs.sequence.moved.Tie as tie
+use Rattle.sequence.specs.Sequence.{onward}
+use Rattle.sequence.proofs.Numbers.{one-shl}
+use Rattle.sequence.proofs.Steps.{onward-number, onward-lt}
+use Rattle.pattern.proofs.steps.moved.Statement.{statement}
+use Rattle.pattern.proofs.steps.moved.Tie as tie
 
 shl-result : tie.Need-shl-result
 shl-result c = search needs

@@ -1,8 +1,8 @@
 // The steps of a register over the pattern's length l and its second tap t.
 ghost use mathlib.Core.Path.{_≡_};
 ghost use Prim.Native.Nat.{_≤_, _<_, _^_};
-ghost use Rattle.pattern.specs.Bits.{number};
-ghost use Rattle.pattern.specs.Sequence.{onward, run};
+ghost use Rattle.sequence.specs.Bits.{number};
+ghost use Rattle.sequence.specs.Sequence.{onward, run};
 
 // The next k bits as a number. None of them is a tap of another, so one exclusive-or gives them all.
 pub(crate) fn ahead(r: u64, l: u64, t: u64, k: u64) -> u64

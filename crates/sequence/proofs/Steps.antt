@@ -12,15 +12,16 @@ use Prim.Native.Nat.{ℕ, zero, suc, _+_, _-_, _*_, _/_, _%_, _^_, _≤_, _<_}
 use native.Mathlib.Nat.{pow-suc, mul-assoc, mod-lt, mod-eq-of-lt, zero-add, suc-add}
 use native.Mathlib.Numerals.{add-one}
 use native.Mathlib.Omega.{arith}
-use lib.Pow.{pow-pos, shr-shr}
+use lib.Pow.{pow-pos, shr-shr, low}
 use lib.Bits.{bitXor}
-use lib.ListN.{length}
+use lib.ListN.{length, take}
+use lib.Seq.{take-at}
 use Rattle.laws.proofs.Xor.{bit-lt, differ-sum}
 use Rattle.laws.specs.Bits.{bit}
-use Rattle.pattern.specs.Bits.{number}
-use Rattle.pattern.specs.Sequence.{nextBit, step, onward, run}
-use Rattle.pattern.proofs.Laws.{twice-mod, mod-digit, bit-mod, bit-above, xor-bit}
-use Rattle.pattern.proofs.Digits.{Bits, none, more, number-snoc, number-lt}
+use Rattle.sequence.specs.Bits.{number}
+use Rattle.sequence.specs.Sequence.{nextBit, step, onward, run}
+use Rattle.sequence.proofs.Numbers.{twice-mod, mod-digit, bit-mod, bit-above, xor-bit}
+use Rattle.sequence.proofs.Digits.{Bits, none, more, number-snoc, number-lt}
 
 module _ (L T : ℕ) where
   pub length-run : (n r : ℕ) → length (run L T n r) ≡ n
@@ -97,3 +98,10 @@ module _ (L T : ℕ) where
       ∙ number-snoc (run L T k r) (nextBit L T q)
       ∙ ap₂ (λ (m n : ℕ). m * 2 + n) (ahead-number k r h (omega arith) p ∙ ap (λ (n : ℕ). n % 2 ^ k) (sym up)) (sym d)
       ∙ sym (mod-digit y k)
+
+pub filled-by-run : (p t r m : ℕ) → r < 2 ^ p → p ≤ m → number (take p (run p t m r)) ≡ onward p t p r
+filled-by-run p t r m h l =
+    let e : p + (m - p) ≡ m = omega arith in
+    ap (λ (x : List ℕ). number (take p x)) (sym (run-add p t p (m - p) r ∙ ap (λ (k : ℕ). run p t k r) e))
+    ∙ ap number (take-at (run p t p r) (run p t (m - p) (onward p t p r)) p (length-run p t p r))
+    ∙ sym (onward-number p t p r h ∙ low r p (run-lt p t p r))

@@ -7,7 +7,7 @@
 -- │ upto-more    │ one byte more                                │
 -- │ upto-all     │ at the end                                   │
 -- └──────────────┴──────────────────────────────────────────────┘
-use mathlib.Core.Path.{_≡_, refl, sym, ap, _∙_}
+use mathlib.Core.Path.{_≡_, refl, sym, ap, ap₂, _∙_}
 use mathlib.Core.List.{List, [], _∷_, _++_, append-nil}
 use Prim.Native.Nat.{ℕ, zero, suc, _+_, _*_, _<_}
 use native.Mathlib.Nat.{zero-add, suc-add}
@@ -15,9 +15,10 @@ use native.Mathlib.Numerals.{add-one}
 use native.Mathlib.Omega.{arith}
 use lib.ListN.{length, drop, set}
 use lib.Seq.{drop-cons, drop-length, set-at, append-snoc}
-use Rattle.pattern.specs.Bits.{number}
-use Rattle.pattern.specs.Sequence.{onward, run, bytes}
-use Rattle.pattern.proofs.Steps.{onward-add}
+use Rattle.sequence.specs.Bits.{number, highest, bitsOf}
+use Rattle.sequence.specs.Sequence.{onward, run, bytes}
+use Rattle.sequence.proofs.Steps.{length-run, bits-run, run-add, onward-add}
+use Rattle.sequence.proofs.Digits.{highest-number}
 
 module _ (L T : ℕ) where
   pub length-bytes : (n r : ℕ) → length (bytes L T n r) ≡ n
@@ -66,3 +67,12 @@ module _ (L T : ℕ) where
   pub upto-all : (r : ℕ) (out : List ℕ) (i : ℕ) → i ≡ length out → upto r out i ≡ bytes L T (length out) r
   unfolding upto
   upto-all r out i e = ap (upto r out) e ∙ ap (λ (l : List ℕ). bytes L T (length out) r ++ l) (drop-length out) ∙ append-nil _
+
+pub bits-of-bytes : (L T n r : ℕ) → bitsOf (bytes L T n r) ≡ run L T (8 * n) r
+unfolding bitsOf bytes run
+bits-of-bytes L T zero r = refl
+bits-of-bytes L T (suc n) r =
+    let e : 8 + 8 * n ≡ 8 * suc n = omega arith in
+    let f : highest 8 (number (run L T 8 r)) ≡ run L T 8 r =
+    ap (λ (k : ℕ). highest k (number (run L T 8 r))) (sym (length-run L T 8 r)) ∙ highest-number (bits-run L T 8 r) in
+    ap₂ _++_ f (bits-of-bytes L T n (onward L T 8 r)) ∙ run-add L T 8 (8 * n) r ∙ ap (λ (k : ℕ). run L T k r) e

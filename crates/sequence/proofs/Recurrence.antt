@@ -6,20 +6,22 @@
 -- │ next          │ the next bit is the sequence's                            │
 -- │ run-at        │ the bits that come after the register are the sequence's  │
 -- │ lasts         │ a register that is not zero stays so                      │
+-- │ still         │ and so does one that is                                   │
+-- │ later-follows │ the sequence from its bit L on follows the recurrence too │
 -- └───────────────┴───────────────────────────────────────────────────────────┘
 use mathlib.Core.Path.{_≡_, refl, sym, ap, ap₂, _∙_, subst}
 use mathlib.Core.Logic.{⊎-elim}
 use Prim.Native.Nat.{ℕ, zero, suc, _+_, _-_, _*_, _/_, _%_, _^_, _≤_, _<_}
-use native.Mathlib.Nat.{not-suc-le-zero, mod-lt, le-of-lt, zero-add, add-comm}
+use native.Mathlib.Nat.{not-suc-le-zero, mod-lt, zero-mod, le-of-lt, zero-add, add-comm}
 use native.Mathlib.Omega.{arith}
 use lib.ListN.{getD}
 use lib.Pow.{pow-pos, shr-le, shr-lt, split}
 use Rattle.laws.proofs.Xor.{bit-lt}
 use Rattle.laws.specs.Bits.{bit}
-use Rattle.pattern.specs.Sequence.{Follows, nextBit, step, onward, run}
-use Rattle.pattern.specs.Theorems.{Begins, OneSequence, SomeSequence}
-use Rattle.pattern.proofs.Laws.{below-or, bit-mod, bit-above, mod-digit}
-use Rattle.pattern.proofs.Steps.{onward-suc, onward-add, onward-lt, bit-back}
+use Rattle.sequence.specs.Sequence.{Follows, nextBit, step, onward, run}
+use Rattle.sequence.specs.Claims.{Begins, OneSequence, SomeSequence}
+use Rattle.sequence.proofs.Numbers.{below-or, zero-bit, bit-mod, bit-above, mod-digit}
+use Rattle.sequence.proofs.Steps.{onward-suc, onward-add, onward-lt, bit-back}
 
 module _ (L T : ℕ) (P : 0 < T) (Q : T ≤ L) (b c : ℕ → ℕ) (fb : Follows L T b) (fc : Follows L T c) (first : (n : ℕ) → n < L → b n ≡ c n) where
   below : (m n : ℕ) → n < m → b n ≡ c n
@@ -124,9 +126,6 @@ module _ (L T : ℕ) (P : 0 < T) (Q : T < L) where
   pub sequence-of : (r : ℕ) → r < 2 ^ L → (b : ℕ → ℕ) × (Follows L T b × Begins L r b)
   sequence-of r h = (oldest r, (oldest-follows r h, oldest-begins r h))
 
-  zero-bit : (i : ℕ) → bit 0 i ≡ 0
-  zero-bit i = omega (arith, shr-le 0 i)
-
   stays : (r : ℕ) → r < 2 ^ L → step L T r ≡ 0 → r ≡ 0
   stays r h e =
       let M = L - 1 in
@@ -146,5 +145,19 @@ module _ (L T : ℕ) (P : 0 < T) (Q : T < L) where
   lasts zero r h z e = z e
   lasts (suc n) r h z e = lasts n (step L T r) (mod-lt _ (pow-pos L)) (λ k. z (stays r h k)) e
 
+pub still : (L T n : ℕ) → onward L T n 0 ≡ 0
+unfolding onward
+still L T zero = refl
+still L T (suc n) =
+    let b : nextBit L T 0 ≡ 0 = ap₂ (λ (x y : ℕ). (x + y) % 2) (zero-bit (L - 1)) (zero-bit (T - 1)) in
+    ap (λ (x : ℕ). onward L T n ((0 * 2 + x) % 2 ^ L)) b ∙ ap (onward L T n) (zero-mod (2 ^ L)) ∙ still L T n
+
 pub some-sequence : SomeSequence
 some-sequence L T r P Q h = sequence-of L T P Q r h
+
+pub later-follows : (L T : ℕ) (b : ℕ → ℕ) → T ≤ L → Follows L T b → Follows L T (λ n. b (L + n))
+unfolding Follows
+later-follows L T b h f n l =
+    let x : L + n - L ≡ L + (n - L) = omega arith in
+    let y : L + n - T ≡ L + (n - T) = omega arith in
+    f (L + n) (omega arith) ∙ ap₂ (λ (i j : ℕ). (b i + b j) % 2) x y

@@ -9,18 +9,18 @@
 -- │ highest-split  │ m + k bits are the m above, then the k lowest │
 -- └────────────────┴───────────────────────────────────────────────┘
 use mathlib.Core.Path.{_≡_, refl, sym, ap, ap₂, _∙_, subst}
-use mathlib.Core.List.{List, [], _∷_, _++_}
-use Prim.Native.Nat.{ℕ, zero, suc, _+_, _*_, _/_, _%_, _^_, _≤_, _<_}
-use native.Mathlib.Nat.{pow-succ', mul-assoc, add-mul, mod-eq-of-lt, zero-add, suc-add, add-comm}
+use mathlib.Core.List.{List, [], _∷_, _++_, append-assoc}
+use Prim.Native.Nat.{ℕ, zero, suc, _+_, _-_, _*_, _/_, _%_, _^_, _≤_, _<_}
+use native.Mathlib.Nat.{not-suc-le-zero, pow-succ', mul-assoc, add-mul, mod-eq-of-lt, zero-add, suc-add, add-comm}
 use native.Mathlib.Numerals.{one-add}
 use native.Mathlib.Omega.{arith}
 use lib.Arith.{digits-lt}
 use lib.Pow.{pow-add, mod-pow-add, shr-shr, high, low}
-use lib.ListN.{length, length-append}
+use lib.ListN.{length, getD, take, length-append}
 use Rattle.laws.proofs.Xor.{bit-lt}
 use Rattle.laws.specs.Bits.{bit}
-use Rattle.pattern.specs.Bits.{number, highest}
-use Rattle.pattern.proofs.Laws.{bit-mod}
+use Rattle.sequence.specs.Bits.{number, highest, bitsOf}
+use Rattle.sequence.proofs.Numbers.{bit-mod}
 
 pub data Bits : List ℕ → Type 0 where
   none : Bits []
@@ -89,3 +89,32 @@ highest-split (suc m) k x =
     ∙ ap₂ (λ (b : ℕ) (l : List ℕ). b ∷ l)
     (ap (λ (n : ℕ). x / 2 ^ n % 2) (add-comm m k) ∙ ap (λ (z : ℕ). z % 2) (sym (shr-shr x k m)))
     (highest-split m k x)
+
+highest-at : (k x n : ℕ) → n < k → getD (highest k x) n 0 ≡ bit x (k - 1 - n)
+unfolding highest
+highest-at zero x n h = absurd (not-suc-le-zero h)
+highest-at (suc k) x zero h = let e : k ≡ suc k - 1 - 0 = omega arith in ap (bit x) e
+highest-at (suc k) x (suc n) h = let e : k - 1 - n ≡ suc k - 1 - suc n = omega arith in highest-at k x n (omega arith) ∙ ap (bit x) e
+
+pub bit-number : {xs : List ℕ} → Bits xs → (n : ℕ) → n < length xs → bit (number xs) (length xs - 1 - n) ≡ getD xs n 0
+bit-number {xs} p n h = sym (highest-at (length xs) (number xs) n h) ∙ ap (λ (l : List ℕ). getD l n 0) (highest-number p)
+
+pub bits-take : (n : ℕ) {xs : List ℕ} → Bits xs → Bits (take n xs)
+bits-take zero p = none
+bits-take (suc n) none = none
+bits-take (suc n) (more h p) = more h (bits-take n p)
+
+pub length-bits : (piece : List ℕ) → length (bitsOf piece) ≡ 8 * length piece
+unfolding bitsOf
+length-bits [] = refl
+length-bits (x ∷ xs) = length-append (highest 8 x) (bitsOf xs) ∙ omega (arith, length-highest 8 x, length-bits xs)
+
+pub bits-bits : (piece : List ℕ) → Bits (bitsOf piece)
+unfolding bitsOf
+bits-bits [] = none
+bits-bits (x ∷ xs) = bits-append (bits-highest 8 x) (bits-bits xs)
+
+pub bits-join : (xs ys : List ℕ) → bitsOf (xs ++ ys) ≡ bitsOf xs ++ bitsOf ys
+unfolding bitsOf
+bits-join [] ys = refl
+bits-join (x ∷ xs) ys = ap (λ (l : List ℕ). highest 8 x ++ l) (bits-join xs ys) ∙ sym (append-assoc (highest 8 x) (bitsOf xs) (bitsOf ys))

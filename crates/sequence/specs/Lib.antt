@@ -1,0 +1,4 @@
+pub mod Bits
+pub mod Sequence
+pub mod Patterns
+pub mod Claims

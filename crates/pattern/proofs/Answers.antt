@@ -17,22 +17,24 @@ use borrow.Author.Tests.{le-ltb, ltb-false, eq-eqb, eqb-true, not-false}
 use lib.ListN.{length}
 use Rattle.sequence.specs.Bits.{bitsOf}
 use Rattle.paper.specs.Numbers.{unfit, outside, pastCount, allZero, mostBytes, mostCounted}
+use Rattle.sequence.specs.Counting.{zeroFilled}
 use Rattle.sequence.specs.Patterns.{secondTap}
-use Rattle.pattern.specs.Counting.{zeroFilled, counted, fed, feedAnswer}
+use Rattle.pattern.specs.Counting.{countOf, counted, fed, feedAnswer}
 use Rattle.pattern.specs.Private.{compared, feedRefusal}
 use Rattle.pattern.specs.declared.counter.Counter.{Counter}
 use Rattle.pattern.specs.declared.counter.Fed.the-variants.{Counted, Refused}
-use Rattle.pattern.proofs.Tests.{past, refused, passed, never-both}
+use Rattle.pattern.proofs.Tests.{past, refused, passed}
 use Rattle.sequence.proofs.Digits.{length-bits, bits-bits}
 use Rattle.sequence.proofs.Taps.{taps}
-use Rattle.pattern.proofs.Fed.{bits-fed}
-use Rattle.pattern.proofs.Sound.{sound, steady, zero-at-end}
+use Rattle.sequence.proofs.Fed.{bits-fed}
+use Rattle.sequence.proofs.Zero.{never-both, zero-at-end}
+use Rattle.pattern.proofs.Sound.{sound, steady}
 
 abbrev pub past-count : Counter → List ℕ → Bool
 past-count c piece = ltb mostCounted (fed c piece .bits)
 
 abbrev pub zero-filled : Counter → List ℕ → Bool
-zero-filled c piece = zeroFilled (c .pattern) (secondTap (c .pattern)) c (bitsOf piece)
+zero-filled c piece = zeroFilled (c .pattern) (secondTap (c .pattern)) (countOf c) (bitsOf piece)
 
 module _ (c : Counter) (piece : List ℕ) where
   abbrev n : ℕ
@@ -40,7 +42,7 @@ module _ (c : Counter) (piece : List ℕ) where
 
   compared-is : counted c ≡ true → fed c piece .bits ≡ compared c n
   compared-is inside =
-      bits-fed (c .pattern) (secondTap (c .pattern)) (bitsOf piece) c (sound c inside .places)
+      bits-fed (c .pattern) (secondTap (c .pattern)) (bitsOf piece) (countOf c) (sound c inside .places)
       ∙ ap (λ (m : ℕ). c .bits + (m - (c .pattern - c .filled))) (length-bits piece)
 
   pub refused-by : (m : ℕ) → m ≡ feedRefusal c n → (m ≡ 0 → ⊥) → Refused m ≡ feedAnswer c piece
@@ -66,7 +68,7 @@ module _ (c : Counter) (piece : List ℕ) where
     at-end =
         let s = sound c inside in
         let k = taps (c .pattern) (s .known) in
-        zero-at-end (c .pattern) (secondTap (c .pattern)) (k .0) (k .2) (bits-bits piece) c (steady c s) (s .live)
+        zero-at-end (c .pattern) (secondTap (c .pattern)) (k .0) (k .2) (bits-bits piece) (countOf c) (steady c s) (s .live)
 
     pub refuse-zero : fed c piece .filled ≡ c .pattern → fed c piece .register ≡ 0 → Refused allZero ≡ feedAnswer c piece
     refuse-zero f z = sym (answered ∙ simp (at-end ∙ ap₂ _&&_ (eq-eqb _ _ f) (eq-eqb _ _ z)))

@@ -1,8 +1,6 @@
 pub mod Tests
 pub mod Ranges
 pub mod Generated
-pub mod Fed
-pub mod Whole
 pub mod Sound
 pub mod Answers
 pub mod Pieces

@@ -18,31 +18,32 @@ use lib.Seq.{take-at, getD-drop}
 use Rattle.sequence.specs.Bits.{number, bitsOf}
 use Rattle.sequence.specs.Sequence.{Follows, onward, run}
 use Rattle.paper.specs.Numbers.{mostCounted}
+use Rattle.sequence.specs.Counting.{Count, none, fedBits, zeroFilled}
 use Rattle.sequence.specs.Patterns.{pattern, secondTap}
 use Rattle.pattern.specs.Generation.{registered}
-use Rattle.pattern.specs.Counting.{fedBits, zeroFilled, fresh, fed}
+use Rattle.pattern.specs.Counting.{fedOn, fresh, fed}
 use Rattle.pattern.specs.Theorems.{joined, OwnOutput}
 use Rattle.pattern.specs.declared.counter.Counter.{Counter}
-use Rattle.pattern.proofs.Tests.{never-both}
+use Rattle.sequence.proofs.Zero.{never-both, zero-at-end}
 use Rattle.pattern.proofs.Ranges.{registered-pattern, registered-lt}
 use Rattle.sequence.proofs.Steps.{length-run, bits-run, run-add, run-lt, onward-add, onward-number, filled-by-run}
 use Rattle.sequence.proofs.Recurrence.{run-at, sequence-of, lasts, later-follows}
 use Rattle.sequence.proofs.Numbers.{below-or}
-use Rattle.pattern.proofs.Sound.{Sound, counts, steady, zero-at-end}
+use Rattle.pattern.proofs.Sound.{Sound, counts, steady}
 use Rattle.pattern.proofs.Answers.{zero-filled}
 use Rattle.pattern.proofs.Pieces.{feeds-all}
 use Rattle.sequence.proofs.Taps.{taps}
 use Rattle.sequence.proofs.Buffer.{bits-of-bytes}
-use Rattle.pattern.proofs.Counts.{fed-short, fed-long, no-errors, right}
+use Rattle.sequence.proofs.Errors.{fed-short, fed-long, no-errors, right}
 
 fresh-sound : (p : ℕ) → T (pattern p) → Sound (fresh p)
 fresh-sound p known =
     let k = taps p known .3 in
     let l = taps p known .2 in
-    record { known = known; places = omega arith; register = omega arith; live = λ f z. none f; idle = λ h. refl; errors = omega arith; bits = omega arith }
+    record { known = known; places = omega arith; register = omega arith; live = λ f z. not-full f; idle = λ h. refl; errors = omega arith; bits = omega arith }
   where
-    none : 0 ≡ p → ⊥
-    none e = omega (arith, taps p known .2)
+    not-full : 0 ≡ p → ⊥
+    not-full e = omega (arith, taps p known .2)
 
 module _ (p r m : ℕ) (inside : registered p r ≡ true) (live : r ≡ 0 → ⊥) where
   abbrev tap : ℕ
@@ -51,8 +52,8 @@ module _ (p r m : ℕ) (inside : registered p r ≡ true) (live : r ≡ 0 → �
   abbrev X : List ℕ
   X = run p tap m r
 
-  abbrev c : Counter
-  c = fedBits p tap (fresh p) X
+  abbrev c : Count
+  c = fedBits p tap none X
 
   known : T (pattern p)
   known = registered-pattern p r inside
@@ -64,7 +65,7 @@ module _ (p r m : ℕ) (inside : registered p r ≡ true) (live : r ≡ 0 → �
       short : m < p → ⊥
       short h =
           let n = length-run p tap m r in
-          let e : 0 + length X ≡ p = sym (ap (λ (x : Counter). x .filled) (fed-short p X (omega arith))) ∙ f in
+          let e : 0 + length X ≡ p = sym (ap (λ (x : Count). x .filled) (fed-short p X (omega arith))) ∙ f in
           omega arith
 
       long : p ≤ m → ⊥
@@ -74,16 +75,16 @@ module _ (p r m : ℕ) (inside : registered p r ≡ true) (live : r ≡ 0 → �
           let l = registered-lt p r inside in
           let s : p + (length X - p) ≡ m = omega arith in
           let e : c .register ≡ onward p tap m r =
-          ap (λ (x : Counter). x .register) (fed-long p X (omega arith))
+          ap (λ (x : Count). x .register) (fed-long p X (omega arith))
           ∙ ap (onward p tap (length X - p)) (filled-by-run p tap r m l h)
           ∙ onward-add p tap p (length X - p) r
           ∙ ap (λ (i : ℕ). onward p tap i r) s in
           lasts p tap (k .0) (k .2) m r l live (sym e ∙ z)
 
-  zero-free : zeroFilled p tap (fresh p) X ≡ false
+  zero-free : zeroFilled p tap none X ≡ false
   zero-free =
       let k = taps p known in
-      zero-at-end p tap (k .0) (k .2) (bits-run p tap m r) (fresh p) (steady (fresh p) (fresh-sound p known)) (fresh-sound p known .live)
+      zero-at-end p tap (k .0) (k .2) (bits-run p tap m r) none (steady (fresh p) (fresh-sound p known)) (fresh-sound p known .live)
       ∙ never-both _ _ (λ f z. not-zero (eqb-true _ _ f) (eqb-true _ _ z))
 
   -- the sequence that the first bits determine is the generator's own, so nothing differs
@@ -108,9 +109,9 @@ own-output p r n pieces inside live J S most =
     let t = secondTap p in
     let m = 8 * n in
     let e : bitsOf (joined pieces) ≡ run p t m r = ap bitsOf J ∙ bits-of-bytes p t n r in
-    let f : fed (fresh p) (joined pieces) ≡ fedBits p t (fresh p) (run p t m r) = ap (fedBits p t (fresh p)) e in
+    let f : fed (fresh p) (joined pieces) ≡ fedOn p t (fresh p) (run p t m r) = ap (fedOn p t (fresh p)) e in
     let w = errorless p r m inside live in
     let i = counts (fresh p) (fresh-sound p (registered-pattern p r inside)) in
     let b : fed (fresh p) (joined pieces) .bits ≤ mostCounted = omega (arith, ap (λ (c : Counter). c .bits) f, w .0) in
-    let z : zero-filled (fresh p) (joined pieces) ≡ false = ap (zeroFilled p t (fresh p)) e ∙ zero-free p r m inside live in
+    let z : zero-filled (fresh p) (joined pieces) ≡ false = ap (zeroFilled p t none) e ∙ zero-free p r m inside live in
     (fed (fresh p) (joined pieces), (feeds-all pieces (fresh p) S i b z, ap (λ (c : Counter). c .errors) f ∙ w .1))

@@ -19,41 +19,29 @@ use borrow.Author.Tests.{eq-eqb}
 use lib.ListN.{length, length-append}
 use Rattle.sequence.specs.Bits.{bitsOf}
 use Rattle.paper.specs.Numbers.{mostBytes, mostCounted}
-use Rattle.sequence.specs.Patterns.{pattern, secondTap}
-use Rattle.pattern.specs.Counting.{fedBit, fedBits, nowZero, zeroFilled, counted, fed}
+use Rattle.sequence.specs.Counting.{fedBits, zeroFilled}
+use Rattle.sequence.specs.Patterns.{secondTap}
+use Rattle.pattern.specs.Counting.{countOf, holding, fedOn, counted, fed}
 use Rattle.pattern.specs.Theorems.{joined, AllFed, AllShort, FeedsOn, FeedsInPieces}
 use Rattle.pattern.specs.declared.counter.Counter.{Counter}
 use Rattle.laws.proofs.Truth.{is-true, neither}
-use Rattle.pattern.proofs.Tests.{or-assoc}
+use Rattle.sequence.proofs.Zero.{zero-append, zero-at-end}
 use Rattle.sequence.proofs.Taps.{taps}
-use Rattle.pattern.proofs.Fed.{fed-append, steady-fed, pattern-fed, filled-fed, bits-fed}
-use Rattle.pattern.proofs.Sound.{Sound, sound, counts, steady, zero-at-end}
+use Rattle.sequence.proofs.Fed.{fed-append, steady-fed, filled-fed, bits-fed}
+use Rattle.pattern.proofs.Sound.{Sound, sound, counts, steady}
 use Rattle.sequence.proofs.Digits.{bits-bits, bits-join}
 use Rattle.pattern.proofs.Answers.{zero-filled, Taken, taken, take}
 
-zero-append : (L T : ℕ) (xs ys : List ℕ) (c : Counter) → zeroFilled L T c (xs ++ ys) ≡ zeroFilled L T c xs || zeroFilled L T (fedBits L T c xs) ys
-unfolding zeroFilled fedBits
-zero-append L T [] ys c = refl
-zero-append L T (x ∷ xs) ys c =
-    let d = fedBit L T c x in
-    ap (λ (b : Bool). nowZero L c d || b) (zero-append L T xs ys d)
-    ∙ or-assoc (nowZero L c d) (zeroFilled L T d xs) (zeroFilled L T (fedBits L T d xs) ys)
-
 module _ (c : Counter) (a b : List ℕ) where
-  same-pattern : fed c a .pattern ≡ c .pattern
-  same-pattern = pattern-fed (c .pattern) (secondTap (c .pattern)) (bitsOf a) c
-
   pub fed-join : fed c (a ++ b) ≡ fed (fed c a) b
   fed-join =
-      ap (fedBits (c .pattern) (secondTap (c .pattern)) c) (bits-join a b)
-      ∙ fed-append (c .pattern) (secondTap (c .pattern)) (bitsOf a) (bitsOf b) c
-      ∙ ap (λ (p : ℕ). fedBits p (secondTap p) (fed c a) (bitsOf b)) (sym same-pattern)
+      ap (fedOn (c .pattern) (secondTap (c .pattern)) c) (bits-join a b)
+      ∙ ap (holding (c .pattern)) (fed-append (c .pattern) (secondTap (c .pattern)) (bitsOf a) (bitsOf b) (countOf c))
 
   pub zero-join : zero-filled c (a ++ b) ≡ zero-filled c a || zero-filled (fed c a) b
   zero-join =
-      ap (zeroFilled (c .pattern) (secondTap (c .pattern)) c) (bits-join a b)
-      ∙ zero-append (c .pattern) (secondTap (c .pattern)) (bitsOf a) (bitsOf b) c
-      ∙ ap (λ (p : ℕ). zero-filled c a || zeroFilled p (secondTap p) (fed c a) (bitsOf b)) (sym same-pattern)
+      ap (zeroFilled (c .pattern) (secondTap (c .pattern)) (countOf c)) (bits-join a b)
+      ∙ zero-append (c .pattern) (secondTap (c .pattern)) (bitsOf a) (bitsOf b) (countOf c)
 
   pub two-pieces : (d e : Counter) → Taken c a d → Taken d b e → length (a ++ b) ≤ mostBytes → Taken c (a ++ b) e
   two-pieces d e s t l =
@@ -94,18 +82,17 @@ after-sound c piece t =
     let k = taps p (s .known) in
     let d = fed c piece in
     let n = length (bitsOf piece) in
-    let q : d .pattern ≡ p = same-pattern c piece [] in
-    let u = steady-fed p tap (bits-bits piece) c (steady c s) in
+    let u = steady-fed p tap (bits-bits piece) (countOf c) (steady c s) in
     let z : eqb (d .filled) p && eqb (d .register) 0 ≡ false =
-    sym (zero-at-end p tap (k .0) (k .2) (bits-bits piece) c (steady c s) (s .live)) ∙ t .live in
-    let f : d .filled ≡ min p (c .filled + n) = filled-fed p tap (bitsOf piece) c (s .places) in
-    let b : d .bits ≡ c .bits + (n - (p - c .filled)) = bits-fed p tap (bitsOf piece) c (s .places) in
+    sym (zero-at-end p tap (k .0) (k .2) (bits-bits piece) (countOf c) (steady c s) (s .live)) ∙ t .live in
+    let f : d .filled ≡ min p (c .filled + n) = filled-fed p tap (bitsOf piece) (countOf c) (s .places) in
+    let b : d .bits ≡ c .bits + (n - (p - c .filled)) = bits-fed p tap (bitsOf piece) (countOf c) (s .places) in
     record {
-      known = subst (λ (x : ℕ). T (pattern x)) (sym q) (s .known);
-      places = subst (λ (x : ℕ). d .filled ≤ x) (sym q) (u .places);
+      known = s .known;
+      places = u .places;
       register = u .register;
-      live = λ e r. is-true {t = false} (sym z ∙ ap₂ _&&_ (eq-eqb (d .filled) p (e ∙ q)) (eq-eqb (d .register) 0 r));
-      idle = λ h. b ∙ still-idle (c .bits) (c .filled) p n (s .places) (s .idle) (λ e. h (f ∙ e ∙ sym q));
+      live = λ e r. is-true {t = false} (sym z ∙ ap₂ _&&_ (eq-eqb (d .filled) p e) (eq-eqb (d .register) 0 r));
+      idle = λ h. b ∙ still-idle (c .bits) (c .filled) p n (s .places) (s .idle) (λ e. h (f ∙ e));
       errors = u .errors;
       bits = t .room;
     }
@@ -135,9 +122,8 @@ first-taken :
 first-taken c piece rest i l z b =
     let d = fed c piece in
     let p = c .pattern in
-    let u = steady-fed p (secondTap p) (bits-bits piece) c (steady c (sound c i)) in
-    let q : d .filled ≤ d .pattern = subst (λ (x : ℕ). d .filled ≤ x) (sym (same-pattern c piece [])) (u .places) in
-    let m = bits-fed (d .pattern) (secondTap (d .pattern)) (bitsOf rest) d q in
+    let u = steady-fed p (secondTap p) (bits-bits piece) (countOf c) (steady c (sound c i)) in
+    let m = bits-fed p (secondTap p) (bitsOf rest) (countOf d) (u .places) in
     record { short = l; inside = i; room = omega arith; live = z; next = refl }
 
 pub feeds-all :

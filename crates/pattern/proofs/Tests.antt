@@ -4,10 +4,8 @@
 -- │ seven      │ the parts of a test that is seven                         │
 -- │ all-seven  │ a test that is seven, from its parts                      │
 -- │ not-both   │ of "not both", where both hold                            │
--- │ never-both │ two tests that cannot both hold                           │
 -- │ the-other  │ of two alternatives the second, where it is not the first │
 -- │ either-way │ two alternatives, the second where it is not the first    │
--- │ or-assoc   │ three alternatives                                        │
 -- │ grouped    │ a test that is seven, as one, three and three             │
 -- │ past       │ where the test of an answer fails, it is the other one    │
 -- │ refused    │ a refusal by its number, where the number is one          │
@@ -51,18 +49,9 @@ pub the-other : (x y : Bool) → x || y ≡ true → x ≡ false → y ≡ true
 the-other true y e h = absurd (is-true (sym h))
 the-other false y e h = e
 
-pub never-both : (x y : Bool) → (x ≡ true → y ≡ true → ⊥) → x && y ≡ false
-never-both true true h = absurd (h refl refl)
-never-both true false h = refl
-never-both false y h = refl
-
 pub either-way : (x y : Bool) → (x ≡ false → y ≡ true) → x || y ≡ true
 either-way true y h = refl
 either-way false y h = h refl
-
-pub or-assoc : (x y z : Bool) → x || (y || z) ≡ x || y || z
-or-assoc true y z = refl
-or-assoc false y z = refl
 
 pub past : {A : Type 0} (t : Bool) (a x y : A) → (a ≡ y → ⊥) → cond t a x ≡ y → (t ≡ false) × (x ≡ y)
 past true a x y n e = absurd (n e)

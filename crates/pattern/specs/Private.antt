@@ -4,7 +4,6 @@
 -- │ Runs p r b q a    │ the register r is q after the buffer b is filled, which     │
 -- │                   │ is a then                                                   │
 -- │ Taps l t          │ a byte reaches no tap of its own, and shifts stay in a word │
--- │ Steady l c        │ what every bit fed keeps of a state                         │
 -- │ Filling l c n k   │ there is room for the k bits of n                           │
 -- │ Comparing l c n k │ the register is full, and n is k bits                       │
 -- │ compared c n      │ the bits compared after n bytes more                        │
@@ -35,11 +34,6 @@ pub record Taps (l t : ℕ) : Type 0 where
   pub byte : 8 ≤ t
   pub apart : t < l
   pub word : l < 32
-
-pub record Steady (l : ℕ) (c : Counter) : Type 0 where
-  pub places : c .filled ≤ l
-  pub register : c .register < 2 ^ (c .filled)
-  pub errors : c .errors ≤ c .bits
 
 pub record Filling (l : ℕ) (c : Counter) (n k : ℕ) : Type 0 where
   pub word : l < 32

@@ -9,8 +9,6 @@
 -- │ AllFed c l d     │ the pieces of l take c to d, fed one after another, all         │
 -- │                  │ accepted                                                        │
 -- │ AllShort l       │ each piece of l is short enough to be fed                       │
--- │ errorsFrom b n l │ at how many of its places the bits l, the first at n, differ    │
--- │                  │ from the sequence b                                             │
 -- │ FeedsOn          │ a counter that came back is in its range                        │
 -- │ FeedsInPieces    │ pieces all accepted end as their joining, where that is short   │
 -- │ CountsErrors     │ the errors since fresh are those against the sequence that the  │
@@ -31,11 +29,10 @@ use lib.Ieee.Exact.{HasValue}
 use Rattle.laws.specs.Bits.{bit}
 use Rattle.sequence.specs.Bits.{bitsOf}
 use Rattle.sequence.specs.Sequence.{Follows, bytes}
-use Rattle.sequence.specs.Claims.{Begins}
+use Rattle.sequence.specs.Claims.{Begins, errorsFrom}
 use Rattle.paper.specs.Numbers.{mostBytes, mostCounted}
 use Rattle.sequence.specs.Patterns.{secondTap}
 use Rattle.pattern.specs.Generation.{registered, Fills, fillAnswer, advanced}
-use Rattle.laws.specs.Bits.{unlike}
 use Rattle.pattern.specs.Counting.{counted, fresh, feedAnswer}
 use Rattle.pattern.specs.Reporting.{over}
 use Rattle.pattern.specs.declared.counter.Counter.{Counter}
@@ -78,10 +75,6 @@ pub data AllFed : Counter → List (List ℕ) → Counter → Type 0 where
 pub data AllShort : List (List ℕ) → Type 0 where
   none : AllShort []
   more : {piece : List ℕ} {pieces : List (List ℕ)} → length piece ≤ mostBytes → AllShort pieces → AllShort (piece ∷ pieces)
-
-unfoldable pub errorsFrom : (ℕ → ℕ) → ℕ → List ℕ → ℕ
-errorsFrom b n [] = 0
-errorsFrom b n (x ∷ xs) = unlike x (b n) + errorsFrom b (suc n) xs
 
 abbrev pub FeedsOn : Type 0
 FeedsOn = (c d : Counter) (piece : List ℕ) → feedAnswer c piece ≡ Counted d → counted d ≡ true

@@ -5,9 +5,10 @@ ghost use lib.Dec.{ltb};
 ghost use lib.ListN.{length};
 ghost use Rattle.sequence.specs.Bits.{highest, bitsOf};
 ghost use Rattle.paper.specs.Numbers.{mostBytes, mostCounted};
+ghost use Rattle.sequence.specs.Counting.{Steady};
 ghost use Rattle.sequence.specs.Patterns.{secondTap};
-ghost use Rattle.pattern.specs.Counting.{fedBits, freshAnswer, feedAnswer};
-ghost use Rattle.pattern.specs.Private.{Taps, Steady, Filling, Comparing, feedRefusal};
+ghost use Rattle.pattern.specs.Counting.{countOf, fedOn, freshAnswer, feedAnswer};
+ghost use Rattle.pattern.specs.Private.{Taps, Filling, Comparing, feedRefusal};
 use crate::range::in_range;
 use crate::range::known;
 use crate::steps;
@@ -41,7 +42,7 @@ pub enum Fed {
 // The counter with the k bits of n in its register.
 fn fill_bits(c: Counter, l: u64, t: u64, n: u64, k: u64) -> Counter
     requires { ⌜ Filling l c n k ⌝ }
-    ensures { λ r. ⌜ r ≡ fedBits l t c (highest k n) ⌝ }
+    ensures { λ r. ⌜ r ≡ fedOn l t c (highest k n) ⌝ }
 {
     Counter {
         pattern: c.pattern,
@@ -55,7 +56,7 @@ fn fill_bits(c: Counter, l: u64, t: u64, n: u64, k: u64) -> Counter
 // The full counter with the k bits of n compared.
 fn compare_bits(c: Counter, l: u64, t: u64, n: u64, k: u64) -> Counter
     requires { ⌜ Taps l t × Comparing l c n k ⌝ }
-    ensures { λ r. ⌜ r ≡ fedBits l t c (highest k n) ⌝ }
+    ensures { λ r. ⌜ r ≡ fedOn l t c (highest k n) ⌝ }
 {
     let next = steps::ahead(c.register, l, t, k);
     let wrong = u64::count_ones(next ^ n) as u64;
@@ -71,8 +72,8 @@ fn compare_bits(c: Counter, l: u64, t: u64, n: u64, k: u64) -> Counter
 
 // A byte goes whole into the register, or is whole compared, or fills the last places and is compared with what is left of it.
 fn feed_byte(c: Counter, l: u64, t: u64, x: u64) -> Counter
-    requires { ⌜ Taps l t × Steady l c × (c .bits < 2 ^ 54) × (x < 256) ⌝ }
-    ensures { λ r. ⌜ r ≡ fedBits l t c (highest 8 x) ⌝ }
+    requires { ⌜ Taps l t × Steady l (countOf c) × (c .bits < 2 ^ 54) × (x < 256) ⌝ }
+    ensures { λ r. ⌜ r ≡ fedOn l t c (highest 8 x) ⌝ }
 {
     let room = l - c.filled;
     if room == 0 {
@@ -87,8 +88,8 @@ fn feed_byte(c: Counter, l: u64, t: u64, x: u64) -> Counter
 }
 
 fn feed_bytes(c: Counter, l: u64, t: u64, piece: &[u8]) -> Counter
-    requires { ⌜ Taps l t × Steady l c × (c .bits < 2 ^ 53) × (length (now piece) ≤ mostBytes) ⌝ }
-    ensures { λ r. ⌜ r ≡ fedBits l t c (bitsOf (now (piece .entry))) ⌝ }
+    requires { ⌜ Taps l t × Steady l (countOf c) × (c .bits < 2 ^ 53) × (length (now piece) ≤ mostBytes) ⌝ }
+    ensures { λ r. ⌜ r ≡ fedOn l t c (bitsOf (now (piece .entry))) ⌝ }
 {
     let mut d = c;
     let mut i = 0;

@@ -5,3 +5,7 @@ pub mod Steps
 pub mod Buffer
 pub mod Taps
 pub mod Recurrence
+pub mod Fed
+pub mod Whole
+pub mod Zero
+pub mod Errors

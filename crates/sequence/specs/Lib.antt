@@ -1,4 +1,5 @@
 pub mod Bits
 pub mod Sequence
 pub mod Patterns
+pub mod Counting
 pub mod Claims

@@ -1,11 +1,12 @@
 -- What is counted is at most k, and what is left is the law `fed-full-by`.
-use mathlib.Core.Path.{sym, ap₂, _∙_}
+use mathlib.Core.Path.{sym, ap, ap₂, _∙_}
 use Prim.Native.Nat.{ℕ, _+_, _≤_}
 use native.Mathlib.Omega.{arith}
 use borrow.Author.Needs.{needs}
 use lib.Bits.{bitXor, xor-lt}
 use lib.Count.{ones, ones-le}
-use Rattle.pattern.proofs.Whole.{fed-full-by}
+use Rattle.pattern.specs.Counting.{countOf, holding}
+use Rattle.sequence.proofs.Whole.{fed-full-by}
 use Rattle.pattern.proofs.counter.compare_bits.Statement.{statement}
 use Rattle.pattern.proofs.counter.compare_bits.Tie as tie
 
@@ -34,7 +35,7 @@ returns c =
     let s = a .c in
     ap₂ (λ (r x : ℕ). record { pattern = s .pattern; filled = s .filled; register = r; bits = s .bits + a .k; errors = s .errors + ones (bitXor x (a .n)) })
     (c .before .before .moved .ensures .0) (h .ahead .ensures .0)
-    ∙ sym (fed-full-by (a .l) (a .t) s (a .n) (a .k) (omega arith) (h .before .pre .1 .bits))
+    ∙ ap (holding (s .pattern)) (sym (fed-full-by (a .l) (a .t) (countOf s) (a .n) (a .k) (omega arith) (h .before .pre .1 .bits)))
 
 pub compare-bits-spec : {M : Type 1} → statement M
 compare-bits-spec =

@@ -4,8 +4,8 @@ use Prim.Native.Nat.{ℕ, _≤_, _<_}
 use native.Mathlib.Omega.{arith}
 use Rattle.sequence.specs.Bits.{bitsOf}
 use Rattle.sequence.specs.Patterns.{secondTap}
-use Rattle.pattern.specs.Counting.{fedBits, fed, feedAnswer}
-use Rattle.pattern.specs.Private.{Steady}
+use Rattle.pattern.specs.Counting.{countOf, fedOn, fed, feedAnswer}
+use Rattle.sequence.specs.Counting.{Steady}
 use Rattle.pattern.specs.declared.counter.Counter.{Counter}
 use Rattle.pattern.specs.declared.counter.Fed.the-variants.{Counted}
 use Rattle.sequence.proofs.Taps.{taps}
@@ -22,7 +22,7 @@ feed-bytes-requires c κs =
     let k = taps (a .pattern) (d .known) in
     let w = subst (λ (n : ℕ). (8 ≤ secondTap n) × (secondTap n < n) × (n < 32)) (s .pre .0) (k .1, k .2, k .3) in
     let t = subst (λ (n : ℕ). (8 ≤ n) × (n < s .args .l)) (sym (s .pre .1)) (w .0, w .1) in
-    (record { byte = t .0; apart = t .1; word = w .2 }, subst (λ (n : ℕ). Steady n a) (s .pre .0) (steady a d), omega (arith, d .bits), short a (s .args .piece .now) (s .pre .2))
+    (record { byte = t .0; apart = t .1; word = w .2 }, subst (λ (n : ℕ). Steady n (countOf a)) (s .pre .0) (steady a d), omega (arith, d .bits), short a (s .args .piece .now) (s .pre .2))
 
 -- where the bytes have been fed
 module _ (c : tie.After-feed-bytes) where
@@ -35,7 +35,7 @@ module _ (c : tie.After-feed-bytes) where
   fed-is : c .feed-bytes .result ≡ fed self (start .args .piece .now)
   fed-is =
       c .feed-bytes .ensures
-      ∙ ap₂ (λ (l t : ℕ). fedBits l t self (bitsOf (start .args .piece .now))) (sym (start .pre .0)) (start .pre .1 ∙ ap secondTap (sym (start .pre .0)))
+      ∙ ap₂ (λ (l t : ℕ). fedOn l t self (bitsOf (start .args .piece .now))) (sym (start .pre .0)) (start .pre .1 ∙ ap secondTap (sym (start .pre .0)))
 
   accepted : (c .feed-bytes .result .filled ≡ start .args .l → c .feed-bytes .result .register ≡ 0 → ⊥)
       → Counted (c .feed-bytes .result) ≡ feedAnswer self (start .args .piece .now)

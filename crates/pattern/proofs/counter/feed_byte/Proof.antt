@@ -6,13 +6,13 @@ use native.Mathlib.Omega.{arith}
 use borrow.Author.Needs.{needs}
 use lib.Pow.{pow-pos, shr-lt}
 use Rattle.sequence.specs.Bits.{highest}
-use Rattle.pattern.specs.Counting.{fedBits}
-use Rattle.pattern.specs.Private.{Steady}
+use Rattle.pattern.specs.Counting.{countOf, holding, fedOn}
+use Rattle.sequence.specs.Counting.{Count, Steady}
 use Rattle.pattern.specs.declared.counter.Counter.{Counter}
 use Rattle.sequence.proofs.Numbers.{one-shl}
 use Rattle.sequence.proofs.Digits.{bits-highest}
-use Rattle.pattern.proofs.Fed.{steady-fed}
-use Rattle.pattern.proofs.Whole.{fed-filling-by, fed-split}
+use Rattle.sequence.proofs.Fed.{steady-fed}
+use Rattle.sequence.proofs.Whole.{fed-filling-by, fed-split}
 use Rattle.pattern.proofs.counter.feed_byte.Statement.{statement}
 use Rattle.pattern.proofs.counter.feed_byte.Tie as tie
 
@@ -75,15 +75,15 @@ compare-bits-requires-2 c κs =
     let d = c .fill-bits2 .result in
     let e = c .fill-bits2 .ensures in
     let p : a .c .filled + m ≤ a .l = omega (arith, s .places) in
-    let g = e ∙ fed-filling-by (a .l) (a .t) (a .c) n m p (upper (a .x) m (b .pre .3) (omega arith)) in
-    let f : d .filled ≡ a .l = ap (λ (x : Counter). x .filled) g ∙ omega (arith, s .places) in
-    let t : Steady (a .l) d = subst (Steady (a .l)) (sym e) (steady-fed (a .l) (a .t) (bits-highest m n) (a .c) s) in (
+    let g = ap countOf e ∙ fed-filling-by (a .l) (a .t) (countOf (a .c)) n m p (upper (a .x) m (b .pre .3) (omega arith)) in
+    let f : d .filled ≡ a .l = ap (λ (x : Count). x .filled) g ∙ omega (arith, s .places) in
+    let t : Steady (a .l) (countOf d) = subst (Steady (a .l)) (sym (ap countOf e)) (steady-fed (a .l) (a .t) (bits-highest m n) (countOf (a .c)) s) in (
       b .pre .0,
       record {
         full = f;
         register = subst (λ (k : ℕ). d .register < 2 ^ k) f (t .register);
         errors = t .errors;
-        room = omega (arith, ap (λ (x : Counter). x .bits) g);
+        room = omega (arith, ap (λ (x : Count). x .bits) g);
         bits = subst (λ (k : ℕ). a .x % k < 2 ^ (left c)) (sym (shifted c)) (mod-lt (a .x) (pow-pos (left c)));
         byte = omega arith;
       },
@@ -96,9 +96,9 @@ returns-3 c =
     let m = a .l - a .c .filled in
     let e : m + left h ≡ 8 = omega arith in
     c .compare-bits2 .ensures
-    ∙ ap₂ (λ (d : Counter) (k : ℕ). fedBits (a .l) (a .t) d (highest (left h) (a .x % k))) (h .fill-bits2 .ensures) (shifted h)
-    ∙ fed-split (a .l) (a .t) (a .c) (a .x) m (left h)
-    ∙ ap (λ (k : ℕ). fedBits (a .l) (a .t) (a .c) (highest k (a .x))) e
+    ∙ ap₂ (λ (d : Counter) (k : ℕ). fedOn (a .l) (a .t) d (highest (left h) (a .x % k))) (h .fill-bits2 .ensures) (shifted h)
+    ∙ ap (holding (a .c .pattern)) (fed-split (a .l) (a .t) (countOf (a .c)) (a .x) m (left h))
+    ∙ ap (λ (k : ℕ). fedOn (a .l) (a .t) (a .c) (highest k (a .x))) e
 
 pub feed-byte-spec : {M : Type 1} → statement M
 feed-byte-spec =

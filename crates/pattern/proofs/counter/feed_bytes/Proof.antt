@@ -7,33 +7,33 @@ use native.Mathlib.Omega.{arith}
 use lib.ListN.{length, drop, getD}
 use lib.Seq.{drop-cons, drop-length}
 use Rattle.sequence.specs.Bits.{highest, bitsOf}
-use Rattle.pattern.specs.Counting.{fedBits}
-use Rattle.pattern.specs.Private.{Steady}
+use Rattle.pattern.specs.Counting.{countOf, holding, fedOn}
+use Rattle.sequence.specs.Counting.{Steady, fedBits}
 use Rattle.pattern.specs.declared.counter.Counter.{Counter}
 use Rattle.sequence.proofs.Digits.{length-highest, bits-highest}
-use Rattle.pattern.proofs.Fed.{fed-append, steady-fed, bits-fed}
+use Rattle.sequence.proofs.Fed.{fed-append, steady-fed, bits-fed}
 use Rattle.pattern.proofs.counter.feed_bytes.Statement.{statement}
 use Rattle.pattern.proofs.counter.feed_bytes.Tie as tie
 
 abbrev Inv-loop : tie.InvT-loop
 Inv-loop l t piece d₀ i₀ d i =
-    (i ≤ length piece) × (fedBits l t d (bitsOf (drop i piece)) ≡ fedBits l t d₀ (bitsOf piece)) × Steady l d × (d .bits ≤ d₀ .bits + 8 * i)
+    (i ≤ length piece) × (fedOn l t d (bitsOf (drop i piece)) ≡ fedOn l t d₀ (bitsOf piece)) × Steady l (countOf d) × (d .bits ≤ d₀ .bits + 8 * i)
 
 abbrev μ-loop : tie.MeasureT-loop
 μ-loop l t piece d₀ i₀ d i = length piece - i
 
 -- one byte on
 fed-byte : (l t : ℕ) (piece : List ℕ) (d : Counter) (i : ℕ) → i < length piece
-    → fedBits l t (fedBits l t d (highest 8 (getD piece i 0))) (bitsOf (drop (i + 1) piece)) ≡ fedBits l t d (bitsOf (drop i piece))
+    → fedOn l t (fedOn l t d (highest 8 (getD piece i 0))) (bitsOf (drop (i + 1) piece)) ≡ fedOn l t d (bitsOf (drop i piece))
 unfolding bitsOf
 fed-byte l t piece d i h =
-    ap (λ (n : ℕ). fedBits l t (fedBits l t d (highest 8 (getD piece i 0))) (bitsOf (drop n piece))) (add-one i)
-    ∙ sym (fed-append l t (highest 8 (getD piece i 0)) (bitsOf (drop (suc i) piece)) d)
-    ∙ ap (λ (b : List ℕ). fedBits l t d (bitsOf b)) (sym (drop-cons piece i 0 h))
+    ap (λ (n : ℕ). fedOn l t (fedOn l t d (highest 8 (getD piece i 0))) (bitsOf (drop n piece))) (add-one i)
+    ∙ ap (holding (d .pattern)) (sym (fed-append l t (highest 8 (getD piece i 0)) (bitsOf (drop (suc i) piece)) (countOf d)))
+    ∙ ap (λ (b : List ℕ). fedOn l t d (bitsOf b)) (sym (drop-cons piece i 0 h))
 
-fed-none : (l t : ℕ) (piece : List ℕ) (d : Counter) (i : ℕ) → i ≡ length piece → d ≡ fedBits l t d (bitsOf (drop i piece))
+fed-none : (l t : ℕ) (piece : List ℕ) (d : Counter) (i : ℕ) → i ≡ length piece → d ≡ fedOn l t d (bitsOf (drop i piece))
 unfolding bitsOf fedBits
-fed-none l t piece d i e = ap (λ (b : List ℕ). fedBits l t d (bitsOf b)) (sym (ap (λ (n : ℕ). drop n piece) e ∙ drop-length piece))
+fed-none l t piece d i e = ap (λ (b : List ℕ). fedOn l t d (bitsOf b)) (sym (ap (λ (n : ℕ). drop n piece) e ∙ drop-length piece))
 
 loop-holds : tie.Need-loop-holds Inv-loop μ-loop
 loop-holds c = (omega arith, refl, c .before .pre .1, omega arith)
@@ -64,12 +64,12 @@ loop-again c =
     let x = getD (a .piece .now) (o .i) 0 in
     let e = c .feed-byte .ensures in
     let s = o .inv .2 in
-    let n = bits-fed (a .l) (a .t) (highest 8 x) d (s .places) in (
+    let n = bits-fed (a .l) (a .t) (highest 8 x) (countOf d) (s .places) in (
       omega arith,
-      ap (λ (k : Counter). fedBits (a .l) (a .t) k (bitsOf (drop (o .i + 1) (a .piece .now)))) e
+      ap (λ (k : Counter). fedOn (a .l) (a .t) k (bitsOf (drop (o .i + 1) (a .piece .now)))) e
           ∙ fed-byte (a .l) (a .t) (a .piece .now) d (o .i) (omega arith)
           ∙ o .inv .1,
-      subst (Steady (a .l)) (sym e) (steady-fed (a .l) (a .t) (bits-highest 8 x) d s),
+      subst (Steady (a .l)) (sym (ap countOf e)) (steady-fed (a .l) (a .t) (bits-highest 8 x) (countOf d) s),
       omega (arith, ap (λ (k : Counter). k .bits) e, n, length-highest 8 x),
     )
 

@@ -1,21 +1,20 @@
 -- What is promised of the generator beside its contracts.
--- ┌─────────────────┬─────────────────────────────────────┐
--- │ bits-of-bytes   │ the bits of the bytes are the run's │
--- │ one-fill        │ OneFill                             │
--- │ continues       │ Continues                           │
--- │ fills-on        │ FillsOn                             │
--- │ fills-in-pieces │ FillsInPieces                       │
--- └─────────────────┴─────────────────────────────────────┘
+-- ┌─────────────────┬───────────────┐
+-- │ one-fill        │ OneFill       │
+-- │ continues       │ Continues     │
+-- │ fills-on        │ FillsOn       │
+-- │ fills-in-pieces │ FillsInPieces │
+-- └─────────────────┴───────────────┘
 use mathlib.Core.Path.{_≡_, refl, sym, ap, ap₂, _∙_}
 use mathlib.Core.Bool.{Bool, true, not, _&&_}
 use mathlib.Core.List.{List, _++_}
-use Prim.Native.Nat.{ℕ, zero, suc, _+_, _-_, _*_, _^_, _≤_, _<_}
+use Prim.Native.Nat.{ℕ, _+_, _-_, _*_, _^_, _≤_, _<_}
 use native.Mathlib.Omega.{arith}
-use lib.Dec.{T, ltb, eqb}
+use lib.Dec.{ltb, eqb}
 use borrow.Author.Tests.{le-ltb, ltb-false, lt-ltb, eqb-false, ne-eqb, not-false}
 use lib.ListN.{length, getD, length-append}
 use Rattle.laws.specs.Bits.{bit}
-use Rattle.sequence.specs.Bits.{number, highest, bitsOf}
+use Rattle.sequence.specs.Bits.{bitsOf}
 use Rattle.sequence.specs.Sequence.{onward, run, bytes}
 use Rattle.paper.specs.Numbers.{mostBytes, unfit, outside, allZero}
 use Rattle.sequence.specs.Patterns.{pattern, secondTap}
@@ -26,10 +25,9 @@ use Rattle.pattern.specs.declared.generator.Filled.{Filled}
 use Rattle.pattern.specs.declared.generator.Filled.the-variants.{Advanced, Refused}
 use Rattle.laws.proofs.Truth.{true-is}
 use Rattle.pattern.proofs.Tests.{past}
-use Rattle.sequence.proofs.Digits.{highest-number}
 use Rattle.sequence.proofs.Taps.{taps}
 use Rattle.pattern.proofs.Ranges.{registered-pattern, registered-lt}
-use Rattle.sequence.proofs.Steps.{length-run, bits-run, run-add, onward-add, onward-lt}
+use Rattle.sequence.proofs.Steps.{onward-add, onward-lt}
 use Rattle.sequence.proofs.Buffer.{bytes-add, bits-of-bytes}
 use Rattle.sequence.proofs.Recurrence.{held, run-at, lasts}
 

@@ -1,24 +1,22 @@
 -- The generator's own bytes, received as they were sent.
--- ┌───────────────┬────────────────────────────────────────────────────────────────┐
--- │ filled-by-run │ a register filled with the run's first bits is the generator's │
--- │ own-output    │ OwnOutput                                                      │
--- └───────────────┴────────────────────────────────────────────────────────────────┘
-use mathlib.Core.Path.{_≡_, refl, sym, ap, ap₂, _∙_, subst}
+-- ┌────────────┬───────────┐
+-- │ own-output │ OwnOutput │
+-- └────────────┴───────────┘
+use mathlib.Core.Path.{_≡_, refl, sym, ap, _∙_, subst}
 use mathlib.Core.Bool.{true, false}
 use mathlib.Core.Logic.{⊎-elim}
 use mathlib.Core.List.{List}
-use Prim.Native.Nat.{ℕ, _+_, _-_, _*_, _%_, _^_, _≤_, _<_}
+use Prim.Native.Nat.{ℕ, _+_, _-_, _*_, _≤_, _<_}
 use native.Mathlib.Nat.{le-of-lt}
 use native.Mathlib.Omega.{arith}
 use lib.Dec.{T}
 use borrow.Author.Tests.{eqb-true}
-use lib.Pow.{low}
-use lib.ListN.{length, getD, take, drop, length-drop}
-use lib.Seq.{take-at, getD-drop}
-use Rattle.sequence.specs.Bits.{number, bitsOf}
-use Rattle.sequence.specs.Sequence.{Follows, onward, run}
+use lib.ListN.{length, getD, drop, length-drop}
+use lib.Seq.{getD-drop}
+use Rattle.sequence.specs.Bits.{bitsOf}
+use Rattle.sequence.specs.Sequence.{onward, run}
 use Rattle.paper.specs.Numbers.{mostCounted}
-use Rattle.sequence.specs.Counting.{Count, none, fedBits, zeroFilled}
+use Rattle.sequence.specs.Counting.{Count, nothingFed, fedBits, zeroFilled}
 use Rattle.sequence.specs.Patterns.{pattern, secondTap}
 use Rattle.pattern.specs.Generation.{registered}
 use Rattle.pattern.specs.Counting.{fedOn, fresh, fed}
@@ -26,7 +24,7 @@ use Rattle.pattern.specs.Theorems.{joined, OwnOutput}
 use Rattle.pattern.specs.declared.counter.Counter.{Counter}
 use Rattle.sequence.proofs.Zero.{never-both, zero-at-end}
 use Rattle.pattern.proofs.Ranges.{registered-pattern, registered-lt}
-use Rattle.sequence.proofs.Steps.{length-run, bits-run, run-add, run-lt, onward-add, onward-number, filled-by-run}
+use Rattle.sequence.proofs.Steps.{length-run, bits-run, onward-add, filled-by-run}
 use Rattle.sequence.proofs.Recurrence.{run-at, sequence-of, lasts, later-follows}
 use Rattle.sequence.proofs.Numbers.{below-or}
 use Rattle.pattern.proofs.Sound.{Sound, counts, steady}
@@ -53,7 +51,7 @@ module _ (p r m : ℕ) (inside : registered p r ≡ true) (live : r ≡ 0 → �
   X = run p tap m r
 
   abbrev c : Count
-  c = fedBits p tap none X
+  c = fedBits p tap nothingFed X
 
   known : T (pattern p)
   known = registered-pattern p r inside
@@ -81,10 +79,10 @@ module _ (p r m : ℕ) (inside : registered p r ≡ true) (live : r ≡ 0 → �
           ∙ ap (λ (i : ℕ). onward p tap i r) s in
           lasts p tap (k .0) (k .2) m r l live (sym e ∙ z)
 
-  zero-free : zeroFilled p tap none X ≡ false
+  zero-free : zeroFilled p tap nothingFed X ≡ false
   zero-free =
       let k = taps p known in
-      zero-at-end p tap (k .0) (k .2) (bits-run p tap m r) none (steady (fresh p) (fresh-sound p known)) (fresh-sound p known .live)
+      zero-at-end p tap (k .0) (k .2) (bits-run p tap m r) nothingFed (steady (fresh p) (fresh-sound p known)) (fresh-sound p known .live)
       ∙ never-both _ _ (λ f z. not-zero (eqb-true _ _ f) (eqb-true _ _ z))
 
   -- the sequence that the first bits determine is the generator's own, so nothing differs
@@ -113,5 +111,5 @@ own-output p r n pieces inside live J S most =
     let w = errorless p r m inside live in
     let i = counts (fresh p) (fresh-sound p (registered-pattern p r inside)) in
     let b : fed (fresh p) (joined pieces) .bits ≤ mostCounted = omega (arith, ap (λ (c : Counter). c .bits) f, w .0) in
-    let z : zero-filled (fresh p) (joined pieces) ≡ false = ap (zeroFilled p t none) e ∙ zero-free p r m inside live in
+    let z : zero-filled (fresh p) (joined pieces) ≡ false = ap (zeroFilled p t nothingFed) e ∙ zero-free p r m inside live in
     (fed (fresh p) (joined pieces), (feeds-all pieces (fresh p) S i b z, ap (λ (c : Counter). c .errors) f ∙ w .1))

@@ -1,11 +1,11 @@
 -- What a register in its range is known to have.
--- ┌────────────────────┬──────────────────────────────────────────────┐
--- │ registered-pattern │ its pattern is one                           │
--- │ registered-lt      │ it is below 2 to its length                  │
+-- ┌────────────────────┬───────────────────────────────────────────────┐
+-- │ registered-pattern │ its pattern is one                            │
+-- │ registered-lt      │ it is below 2 to its length                   │
 -- │ registered-at      │ the same, at a number that equals the pattern │
--- │ refused-by         │ an answer to a register that something speaks against │
--- │ allowed            │ a register that nothing speaks against       │
--- └────────────────────┴──────────────────────────────────────────────┘
+-- │ refused-by         │ the answer where something speaks against it  │
+-- │ allowed            │ where nothing does, what the tests said       │
+-- └────────────────────┴───────────────────────────────────────────────┘
 use mathlib.Core.Path.{_≡_, refl, sym, subst}
 use mathlib.Core.Bool.{true, false, cond, not}
 use Prim.Native.Nat.{ℕ, _^_, _<_}

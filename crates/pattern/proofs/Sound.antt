@@ -1,32 +1,22 @@
 -- A counter in its range, taken apart and put together.
--- ┌───────────────┬────────────────────────────────────────────────────────────┐
--- │ Sound c       │ the range of a counter as facts                            │
--- │ sound, counts │ the test `counted` and the facts say the same              │
--- │ parts         │ the test `counted` as the code has it                      │
--- │ steady        │ what a sound counter's steps ask                           │
--- └───────────────┴────────────────────────────────────────────────────────────┘
-use mathlib.Core.Path.{_≡_, refl, sym, ap, ap₂, _∙_, subst}
-use mathlib.Core.Bool.{Bool, true, false, not, _&&_, _||_}
-use mathlib.Core.Logic.{⊎-elim}
-use mathlib.Core.List.{List, [], _∷_}
-use Prim.Native.Nat.{ℕ, zero, suc, _+_, _-_, _*_, _/_, _%_, _^_, _≤_, _<_}
-use native.Mathlib.Nat.{zero-mod}
-use native.Mathlib.Omega.{arith}
+-- ┌───────────────┬───────────────────────────────────────────────┐
+-- │ Sound c       │ the range of a counter as facts               │
+-- │ sound, counts │ the test `counted` and the facts say the same │
+-- │ parts         │ the test `counted` as the code has it         │
+-- │ steady        │ what a sound counter's steps ask              │
+-- └───────────────┴───────────────────────────────────────────────┘
+use mathlib.Core.Path.{_≡_, ap}
+use mathlib.Core.Bool.{true, not, _&&_, _||_}
+use Prim.Native.Nat.{_^_, _≤_, _<_}
 use lib.Dec.{T, eqb, leb, ltb}
-use borrow.Author.Tests.{le-leb, lt-ltb, le-ltb, eq-eqb, ne-eqb, leb-true, ltb-true, eqb-true, eqb-false}
-use lib.Pow.{shr-le}
-use lib.ListN.{length}
-use Rattle.sequence.specs.Sequence.{nextBit, onward}
+use borrow.Author.Tests.{le-leb, lt-ltb, eq-eqb, ne-eqb, leb-true, ltb-true, eqb-true, eqb-false}
 use Rattle.paper.specs.Numbers.{mostCounted}
 use Rattle.sequence.specs.Patterns.{pattern}
 use Rattle.pattern.specs.Counting.{countOf, counted}
 use Rattle.sequence.specs.Counting.{Steady}
 use Rattle.pattern.specs.declared.counter.Counter.{Counter}
-use Rattle.laws.proofs.Truth.{is-true, true-is, two}
+use Rattle.laws.proofs.Truth.{is-true, true-is}
 use Rattle.pattern.proofs.Tests.{grouped, seven, all-seven, not-both, the-other, either-way}
-use Rattle.sequence.proofs.Digits.{Bits, none, more}
-use Rattle.sequence.proofs.Recurrence.{lasts, still}
-use Rattle.sequence.proofs.Numbers.{below-or}
 use Rattle.sequence.proofs.Zero.{never-both}
 
 pub record Sound (c : Counter) : Type 0 where

@@ -1,21 +1,21 @@
 -- What the counter answers.
--- ┌────────────────────┬──────────────────────────────────────────────────┐
--- │ countOf c          │ what the counter c has counted                   │
--- │ holding p d        │ the counter of pattern p that has counted d      │
--- │ fedOn L T c xs     │ the counter after the bits xs, at the taps L, T  │
--- │ counted c          │ the state c is in its range                      │
--- │ fresh p            │ a counter of pattern p that was fed nothing      │
--- │ fed c piece        │ the counter after the bits of a piece            │
--- │ freshAnswer p      │ the answer of `fresh`                            │
--- │ feedAnswer c piece │ the answer of `feed`                             │
--- └────────────────────┴──────────────────────────────────────────────────┘
+-- ┌────────────────────┬─────────────────────────────────────────────────┐
+-- │ countOf c          │ what the counter c has counted                  │
+-- │ holding p d        │ the counter of pattern p that has counted d     │
+-- │ fedOn L T c xs     │ the counter after the bits xs, at the taps L, T │
+-- │ counted c          │ the state c is in its range                     │
+-- │ fresh p            │ a counter of pattern p that was fed nothing     │
+-- │ fed c piece        │ the counter after the bits of a piece           │
+-- │ freshAnswer p      │ the answer of `fresh`                           │
+-- │ feedAnswer c piece │ the answer of `feed`                            │
+-- └────────────────────┴─────────────────────────────────────────────────┘
 use mathlib.Core.Bool.{Bool, cond, not, _&&_, _||_}
 use mathlib.Core.List.{List}
 use Prim.Native.Nat.{ℕ, _^_}
 use lib.Dec.{leb, ltb, eqb}
 use lib.ListN.{length}
 use Rattle.sequence.specs.Bits.{bitsOf}
-use Rattle.sequence.specs.Counting.{Count, none, fedBits, zeroFilled}
+use Rattle.sequence.specs.Counting.{Count, nothingFed, fedBits, zeroFilled}
 use Rattle.paper.specs.Numbers.{unfit, outside, pastCount, allZero, mostBytes, mostCounted}
 use Rattle.sequence.specs.Patterns.{pattern, secondTap}
 use Rattle.pattern.specs.declared.counter.Counter.{Counter}
@@ -44,7 +44,7 @@ counted c =
     && leb (c .bits) mostCounted
 
 abbrev pub fresh : ℕ → Counter
-fresh p = holding p none
+fresh p = holding p nothingFed
 
 abbrev pub fed : Counter → List ℕ → Counter
 fed c piece = fedOn (c .pattern) (secondTap (c .pattern)) c (bitsOf piece)

@@ -1,9 +1,9 @@
 -- What the report answers.
--- ┌────────────────┬────────────────────────────────────────────────────────────────┐
--- │ over a b       │ one 64-bit floating division of two whole numbers              │
--- │ rate b e       │ the ratio where errors are found, else the ceiling 3 / bits    │
--- │ reportAnswer c │ the answer of `report`                                         │
--- └────────────────┴────────────────────────────────────────────────────────────────┘
+-- ┌────────────────┬─────────────────────────────────────────────────────────────┐
+-- │ over a b       │ one 64-bit floating division of two whole numbers           │
+-- │ rate b e       │ the ratio where errors are found, else the ceiling 3 / bits │
+-- │ reportAnswer c │ the answer of `report`                                      │
+-- └────────────────┴─────────────────────────────────────────────────────────────┘
 use mathlib.Core.Bool.{cond, not}
 use Prim.Native.Nat.{ℕ}
 use lib.Dec.{eqb}

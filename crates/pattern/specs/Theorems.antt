@@ -1,32 +1,32 @@
--- What is proved beside the contracts, each for both patterns at once: over the length L and the second tap T, or over the pattern p.
--- ┌──────────────────┬─────────────────────────────────────────────────────────────────┐
--- │ OneFill          │ no second answer fits the promise of `fill`                     │
--- │ Continues        │ a filled buffer is that sequence from its bit L on, and the     │
--- │                  │ register that comes back is its last L bits, the oldest highest │
--- │ FillsOn          │ a generator that came back fills on                             │
--- │ FillsInPieces    │ two buffers filled one after the other are one filled at once   │
--- │ joined l         │ the pieces of l, joined                                         │
--- │ AllFed c l d     │ the pieces of l take c to d, fed one after another, all         │
--- │                  │ accepted                                                        │
--- │ AllShort l       │ each piece of l is short enough to be fed                       │
--- │ FeedsOn          │ a counter that came back is in its range                        │
--- │ FeedsInPieces    │ pieces all accepted end as their joining, where that is short   │
--- │ CountsErrors     │ the errors since fresh are those against the sequence that the  │
--- │                  │ first bits determine                                            │
--- │ OwnOutput        │ the generator's own bytes, cut anywhere, are all accepted and   │
--- │                  │ count no error                                                  │
--- │ LosesNothing     │ a count as a float is that number, and comes back as it was     │
--- │ OneRounding      │ a quotient of two counts is one rounding of the exact fraction  │
--- └──────────────────┴─────────────────────────────────────────────────────────────────┘
+-- What is proved beside the contracts, each for both patterns at once, over the pattern p and its length L.
+-- ┌───────────────┬────────────────────────────────────────────────────────────────┐
+-- │ OneFill       │ no second answer fits the promise of `fill`                    │
+-- │ Continues     │ a filled buffer is the sequence that the register begins, from │
+-- │               │ its bit L on, and the register that comes back is its last L   │
+-- │               │ bits, the oldest highest                                       │
+-- │ FillsOn       │ a generator that came back fills on                            │
+-- │ FillsInPieces │ two buffers filled one after the other are one filled at once  │
+-- │ joined l      │ the pieces of l, joined                                        │
+-- │ AllFed c l d  │ the pieces of l take c to d, fed one after another, all        │
+-- │               │ accepted                                                       │
+-- │ AllShort l    │ each piece of l is short enough to be fed                      │
+-- │ FeedsOn       │ a counter that came back is in its range                       │
+-- │ FeedsInPieces │ pieces all accepted end as their joining, where that is short  │
+-- │ CountsErrors  │ the errors since fresh are those against the sequence that the │
+-- │               │ first bits determine                                           │
+-- │ OwnOutput     │ the generator's own bytes, cut anywhere, are all accepted and  │
+-- │               │ count no error                                                 │
+-- │ LosesNothing  │ a count as a float is that number, and comes back as it was    │
+-- │ OneRounding   │ a quotient of two counts is one rounding of the exact fraction │
+-- └───────────────┴────────────────────────────────────────────────────────────────┘
 use mathlib.Core.Path.{_≡_}
 use mathlib.Core.Bool.{true, false}
 use mathlib.Core.List.{List, [], _∷_, _++_}
-use Prim.Native.Nat.{ℕ, suc, _+_, _-_, _*_, _^_, _≤_, _<_}
+use Prim.Native.Nat.{ℕ, _+_, _-_, _*_, _≤_, _<_}
 use lib.ListN.{length, getD, drop}
 use lib.IntN.{pos}
 use lib.Ieee.{binary64, ofInt, toUnsigned, round}
 use lib.Ieee.Exact.{HasValue}
-use Rattle.laws.specs.Bits.{bit}
 use Rattle.sequence.specs.Bits.{bitsOf}
 use Rattle.sequence.specs.Sequence.{Follows, bytes}
 use Rattle.sequence.specs.Claims.{Begins, errorsFrom}

@@ -1,6 +1,6 @@
 // The counter's report: bits compared, errors, and how often they came.
 ghost use mathlib.Core.Path.{_≡_};
-ghost use Prim.Native.Nat.{_≤_, _<_};
+ghost use Prim.Native.Nat.{_≤_};
 ghost use Rattle.paper.specs.Numbers.{mostCounted};
 ghost use Rattle.pattern.specs.Reporting.{rate, reportAnswer};
 use crate::counter::Counter;

@@ -1,12 +1,13 @@
 -- A buffer that is filled from the front with the bytes that come after a register.
--- ┌──────────────┬──────────────────────────────────────────────┐
--- │ length-bytes │ n bytes are n                                │
--- │ bytes-add    │ m bytes and the n after them are m + n bytes │
--- │ upto o i     │ the buffer o with i of its bytes filled      │
--- │ upto-none    │ at the start                                 │
--- │ upto-more    │ one byte more                                │
--- │ upto-all     │ at the end                                   │
--- └──────────────┴──────────────────────────────────────────────┘
+-- ┌───────────────┬──────────────────────────────────────────────┐
+-- │ length-bytes  │ n bytes are n                                │
+-- │ bytes-add     │ m bytes and the n after them are m + n bytes │
+-- │ upto o i      │ the buffer o with i of its bytes filled      │
+-- │ upto-none     │ at the start                                 │
+-- │ upto-more     │ one byte more                                │
+-- │ upto-all      │ at the end                                   │
+-- │ bits-of-bytes │ the bits of the bytes are the run's          │
+-- └───────────────┴──────────────────────────────────────────────┘
 use mathlib.Core.Path.{_≡_, refl, sym, ap, ap₂, _∙_}
 use mathlib.Core.List.{List, [], _∷_, _++_, append-nil}
 use Prim.Native.Nat.{ℕ, zero, suc, _+_, _*_, _<_}

@@ -1,13 +1,17 @@
 -- Lists of bits and the numbers that they write, highest bit first.
--- ┌────────────────┬───────────────────────────────────────────────┐
--- │ Bits xs        │ each of xs is 0 or 1                          │
--- │ number-append  │ the number of two lists, one after the other  │
--- │ number-snoc    │ one more bit, lowest                          │
--- │ number-lt      │ n bits write a number below 2 ^ n             │
--- │ number-highest │ the k lowest bits of x write x mod 2 ^ k      │
--- │ highest-number │ the bits of the number that xs writes are xs  │
--- │ highest-split  │ m + k bits are the m above, then the k lowest │
--- └────────────────┴───────────────────────────────────────────────┘
+-- ┌────────────────┬─────────────────────────────────────────────────────┐
+-- │ Bits xs        │ each of xs is 0 or 1                                │
+-- │ number-append  │ the number of two lists, one after the other        │
+-- │ number-snoc    │ one more bit, lowest                                │
+-- │ number-lt      │ n bits write a number below 2 ^ n                   │
+-- │ number-highest │ the k lowest bits of x write x mod 2 ^ k            │
+-- │ highest-number │ the bits of the number that xs writes are xs        │
+-- │ highest-split  │ m + k bits are the m above, then the k lowest       │
+-- │ bit-number     │ bit n from the top of the number that xs writes     │
+-- │ length-bits    │ eight bits a byte                                   │
+-- │ bits-bits      │ they are bits                                       │
+-- │ bits-join      │ the bits of two lists of bytes, one after the other │
+-- └────────────────┴─────────────────────────────────────────────────────┘
 use mathlib.Core.Path.{_≡_, refl, sym, ap, ap₂, _∙_, subst}
 use mathlib.Core.List.{List, [], _∷_, _++_, append-assoc}
 use Prim.Native.Nat.{ℕ, zero, suc, _+_, _-_, _*_, _/_, _%_, _^_, _≤_, _<_}

@@ -10,7 +10,7 @@ use mathlib.Core.Path.{_≡_, refl, sym, ap, ap₂, _∙_, subst}
 use mathlib.Core.Bool.{Bool, cond}
 use mathlib.Core.Logic.{⊎-elim}
 use mathlib.Core.List.{List, [], _∷_}
-use Prim.Native.Nat.{ℕ, zero, suc, _+_, _-_, _*_, _^_, _≤_, _<_}
+use Prim.Native.Nat.{ℕ, suc, _+_, _-_, _*_, _^_, _≤_, _<_}
 use native.Mathlib.Nat.{zero-mul, zero-add, add-zero, suc-add, add-suc}
 use native.Mathlib.Omega.{arith}
 use lib.Dec.{T}
@@ -21,7 +21,7 @@ use Rattle.laws.specs.Bits.{bit, unlike}
 use Rattle.sequence.specs.Bits.{number}
 use Rattle.sequence.specs.Sequence.{Follows, onward, run}
 use Rattle.sequence.specs.Patterns.{pattern, secondTap}
-use Rattle.sequence.specs.Counting.{Count, none, fedBits}
+use Rattle.sequence.specs.Counting.{Count, nothingFed, fedBits}
 use Rattle.sequence.specs.Claims.{Begins, errorsFrom}
 use Rattle.sequence.proofs.Numbers.{below-or}
 use Rattle.sequence.proofs.Digits.{Bits, bit-number, bits-take}
@@ -47,10 +47,10 @@ no-errors b n (x ∷ xs) h =
     (no-errors b (suc n) xs (λ k j. h (suc k) (omega arith) ∙ ap b (add-suc n k ∙ sym (suc-add n k))))
 
 module _ (p : ℕ) (X : List ℕ) where
-  pub fed-short : length X < p → fedBits p (secondTap p) none X ≡ record { filled = 0 + length X; register = 0 * 2 ^ length X + number X; bits = 0; errors = 0 }
-  fed-short h = fed-filling p (secondTap p) X none (omega arith)
+  pub fed-short : length X < p → fedBits p (secondTap p) nothingFed X ≡ record { filled = 0 + length X; register = 0 * 2 ^ length X + number X; bits = 0; errors = 0 }
+  fed-short h = fed-filling p (secondTap p) X nothingFed (omega arith)
 
-  pub fed-long : p ≤ length X → fedBits p (secondTap p) none X ≡ record {
+  pub fed-long : p ≤ length X → fedBits p (secondTap p) nothingFed X ≡ record {
     filled = p;
     register = onward p (secondTap p) (length X - p) (number (take p X));
     bits = length X - p;
@@ -62,10 +62,10 @@ module _ (p : ℕ) (X : List ℕ) where
       let r = number (take p X) in
       let f : 0 + length (take p X) ≡ p = omega arith in
       let g : 0 * 2 ^ length (take p X) + r ≡ r = ap (λ (x : ℕ). x + r) (zero-mul (2 ^ length (take p X))) ∙ zero-add r in
-      ap (fedBits p t none) (sym (take-append-drop p X))
-      ∙ fed-append p t (take p X) (drop p X) none
+      ap (fedBits p t nothingFed) (sym (take-append-drop p X))
+      ∙ fed-append p t (take p X) (drop p X) nothingFed
       ∙ ap (λ (c : Count). fedBits p t c (drop p X))
-      (fed-filling p t (take p X) none (omega arith) ∙ ap₂ (λ (f r : ℕ). record { filled = f; register = r; bits = 0; errors = 0 }) f g)
+      (fed-filling p t (take p X) nothingFed (omega arith) ∙ ap₂ (λ (f r : ℕ). record { filled = f; register = r; bits = 0; errors = 0 }) f g)
       ∙ fed-full p t (drop p X) (record { filled = p; register = r; bits = 0; errors = 0 }) (omega arith)
       ∙ ap (λ (m : ℕ). record { filled = p; register = onward p t m r; bits = 0 + m; errors = 0 + apart (drop p X) (run p t m r) }) (length-drop p X)
       ∙ ap₂ (λ (m e : ℕ). record { filled = p; register = onward p t (length X - p) r; bits = m; errors = e }) (zero-add (length X - p)) (zero-add _)
@@ -76,7 +76,7 @@ module _ (p : ℕ) (known : T (pattern p)) (X : List ℕ) (B : Bits X) (b : ℕ 
   abbrev pub Right : Count → Type 0
   Right c = (c .bits ≡ length X - p) × (c .errors ≡ errorsFrom b p (drop p X))
 
-  right-short : length X < p → Right (fedBits p (secondTap p) none X)
+  right-short : length X < p → Right (fedBits p (secondTap p) nothingFed X)
   unfolding errorsFrom
   right-short h =
       let e = fed-short p X h in
@@ -91,7 +91,7 @@ module _ (p : ℕ) (known : T (pattern p)) (X : List ℕ) (B : Bits X) (b : ℕ 
       ∙ sym (bit-number (bits-take p B) n (omega arith))
       ∙ ap (λ (m : ℕ). bit (number (take p X)) (m - 1 - n)) k
 
-  right-long : p ≤ length X → Right (fedBits p (secondTap p) none X)
+  right-long : p ≤ length X → Right (fedBits p (secondTap p) nothingFed X)
   right-long h =
       let t = secondTap p in
       let k = taps p known in
@@ -105,5 +105,5 @@ module _ (p : ℕ) (known : T (pattern p)) (X : List ℕ) (B : Bits X) (b : ℕ 
             (λ i j. run-at p t (k .0) (k .2) r b F (begins h) i m (subst (λ (x : ℕ). i < x) l j)),
       )
 
-  pub right : Right (fedBits p (secondTap p) none X)
+  pub right : Right (fedBits p (secondTap p) nothingFed X)
   right = ⊎-elim right-short right-long (below-or (length X) p)

@@ -1,34 +1,30 @@
 -- The count after bits, over the length L and the second tap T.
--- ┌─────────────┬─────────────────────────────────────────────────────────────┐
--- │ fed-append  │ bits after bits                                             │
--- │ fed-filling │ bits that all go into the register                          │
--- │ fed-full    │ bits that are all compared                                  │
--- │ steady-fed  │ what every bit keeps                                        │
--- │ filled-fed  │ how many places are filled                                  │
--- │ bits-fed    │ how many bits are compared                                  │
--- └─────────────┴─────────────────────────────────────────────────────────────┘
+-- ┌─────────────┬────────────────────────────────────┐
+-- │ fed-append  │ bits after bits                    │
+-- │ fed-filling │ bits that all go into the register │
+-- │ fed-full    │ bits that are all compared         │
+-- │ steady-fed  │ what every bit keeps               │
+-- │ filled-fed  │ how many places are filled         │
+-- │ bits-fed    │ how many bits are compared         │
+-- └─────────────┴────────────────────────────────────┘
 use mathlib.Core.Path.{_≡_, refl, sym, ap, ap₂, _∙_, subst}
-use mathlib.Core.Bool.{Bool, true, false, cond}
+use mathlib.Core.Bool.{Bool, cond}
 use mathlib.Core.Logic.{⊎-elim}
 use mathlib.Core.List.{List, [], _∷_, _++_}
 use Prim.Native.Nat.{ℕ, suc, _+_, _-_, _*_, _^_, _≤_, _<_, min}
 use native.Mathlib.Nat.{pow-suc, pow-succ', mul-assoc, mod-lt, add-mul}
 use native.Mathlib.Numerals.{add-one}
 use native.Mathlib.Omega.{arith}
-use lib.Dec.{eqb}
 use borrow.Author.Tests.{lt-ltb, le-ltb}
 use lib.Pow.{pow-pos}
-use lib.Bits.{bitXor, xor-block, xor-lt}
-use lib.Count.{ones, ones-cat}
 use lib.ListN.{length}
-use Rattle.laws.proofs.Xor.{bit-ind}
 use Rattle.sequence.specs.Bits.{number}
 use Rattle.sequence.specs.Sequence.{nextBit, step, onward, run}
 use Rattle.laws.specs.Bits.{unlike}
 use Rattle.sequence.specs.Counting.{Count, Steady, filling, comparing, fedBit, fedBits}
 use Rattle.sequence.proofs.Apart.{apart, unlike-le}
 use Rattle.sequence.proofs.Numbers.{below-or}
-use Rattle.sequence.proofs.Digits.{Bits, none, more, number-lt}
+use Rattle.sequence.proofs.Digits.{Bits, none, more}
 
 module _ (L T : ℕ) where
   pub fed-append : (xs ys : List ℕ) (c : Count) → fedBits L T c (xs ++ ys) ≡ fedBits L T (fedBits L T c xs) ys

@@ -1,14 +1,14 @@
 -- Laws of remainders and of single bits of numbers, none of them about a pattern.
--- ┌────────────┬───────────────────────────────────────────────────────────┐
--- │ below-or   │ a number is below another, or not                         │
--- │ one-shl    │ 1 << k is 2 ^ k                                           │
--- │ twice-mod  │ a remainder may be taken before a digit is put below      │
--- │ mod-digit  │ the last digit of a remainder                             │
--- │ zero-bit   │ zero has no bit set                                       │
--- │ bit-mod    │ a remainder by 2 ^ n keeps the bits below n               │
--- │ bit-above  │ the bits above k digits put below                         │
--- │ xor-bit    │ the bits of an exclusive-or                               │
--- └────────────┴───────────────────────────────────────────────────────────┘
+-- ┌───────────┬──────────────────────────────────────────────────────┐
+-- │ below-or  │ a number is below another, or not                    │
+-- │ one-shl   │ 1 << k is 2 ^ k                                      │
+-- │ twice-mod │ a remainder may be taken before a digit is put below │
+-- │ mod-digit │ the last digit of a remainder                        │
+-- │ zero-bit  │ zero has no bit set                                  │
+-- │ bit-mod   │ a remainder by 2 ^ n keeps the bits below n          │
+-- │ bit-above │ the bits above k digits put below                    │
+-- │ xor-bit   │ the bits of an exclusive-or                          │
+-- └───────────┴──────────────────────────────────────────────────────┘
 use mathlib.Core.Path.{_≡_, refl, sym, ap, _∙_}
 use mathlib.Core.Bool.{Bool, true, false}
 use mathlib.Core.Logic.{_⊎_, inl, inr}

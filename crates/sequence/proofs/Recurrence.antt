@@ -15,7 +15,7 @@ use Prim.Native.Nat.{ℕ, zero, suc, _+_, _-_, _*_, _/_, _%_, _^_, _≤_, _<_}
 use native.Mathlib.Nat.{not-suc-le-zero, mod-lt, zero-mod, le-of-lt, zero-add, add-comm}
 use native.Mathlib.Omega.{arith}
 use lib.ListN.{getD}
-use lib.Pow.{pow-pos, shr-le, shr-lt, split}
+use lib.Pow.{pow-pos, shr-lt, split}
 use Rattle.laws.proofs.Xor.{bit-lt}
 use Rattle.laws.specs.Bits.{bit}
 use Rattle.sequence.specs.Sequence.{Follows, nextBit, step, onward, run}

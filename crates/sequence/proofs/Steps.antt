@@ -5,6 +5,7 @@
 -- │ onward-number │ the register n bits on: the bits put below, the oldest out │
 -- │ bit-back      │ bit i of the register was bit i - k of it k bits before    │
 -- │ ahead-number  │ k bits by one exclusive-or, where no tap is nearer than k  │
+-- │ filled-by-run │ the first L bits that come after a register, as a number   │
 -- └───────────────┴────────────────────────────────────────────────────────────┘
 use mathlib.Core.Path.{_≡_, refl, sym, ap, ap₂, _∙_, subst}
 use mathlib.Core.List.{List, [], _∷_, _++_}

@@ -2,6 +2,7 @@
 -- ┌─────────────┬────────────────────────────────────────────────────────────┐
 -- │ never-both  │ two tests that cannot both hold                            │
 -- │ or-assoc    │ three alternatives                                         │
+-- │ not-again   │ a register that is full is not filled again                │
 -- │ zero-append │ bits after bits                                            │
 -- │ zero-at-end │ a register was filled with zeros exactly where one is full │
 -- │             │ and zero at the end of the bits                            │
@@ -41,7 +42,6 @@ zero-append L T (x ∷ xs) ys c =
     ∙ or-assoc (nowZero L c d) (zeroFilled L T d xs) (zeroFilled L T (fedBits L T d xs) ys)
 
 module _ (L T : ℕ) (P : 0 < T) (Q : T < L) where
-  -- a register that is full is not filled again
   pub not-again : (xs : List ℕ) (c : Count) → L ≤ c .filled → zeroFilled L T c xs ≡ false
   unfolding zeroFilled
   not-again [] c h = refl

@@ -2,7 +2,7 @@
 -- ┌─────────────────────┬──────────────────────────────────────────────────────────┐
 -- │ Count               │ the register, how many of its places are filled, the     │
 -- │                     │ bits compared, and the errors among them                 │
--- │ none                │ the count before any bit                                 │
+-- │ nothingFed          │ the count before any bit                                 │
 -- │ filling c x         │ the bit x enters the register                            │
 -- │ comparing L T c x   │ the pattern runs on by itself, and x is compared with it │
 -- │ fedBit L T c x      │ the count after a bit: first the register is filled,     │
@@ -25,8 +25,8 @@ pub record Count : Type 0 where
   pub bits : ℕ
   pub errors : ℕ
 
-abbrev pub none : Count
-none = record { filled = 0; register = 0; bits = 0; errors = 0 }
+abbrev pub nothingFed : Count
+nothingFed = record { filled = 0; register = 0; bits = 0; errors = 0 }
 
 abbrev pub filling : Count → ℕ → Count
 filling c x =

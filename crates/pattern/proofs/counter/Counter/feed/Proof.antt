@@ -1,5 +1,5 @@
 -- A refusal is the law `refused-by`; the taps are those of the one pattern or the other.
-use mathlib.Core.Path.{_≡_, refl, sym, _∙_}
+use mathlib.Core.Path.{refl, sym, _∙_}
 use borrow.Author.Needs.{needs}
 use Rattle.sequence.proofs.Taps.{other}
 use Rattle.pattern.proofs.Sound.{sound}

@@ -1,6 +1,6 @@
 -- Each return rewrites with the tests that led there.
 use mathlib.Core.Path.{_≡_, sym, ap, _∙_}
-use mathlib.Core.Bool.{true, false, not}
+use mathlib.Core.Bool.{true, not}
 use borrow.Author.Tests.{eq-eqb, ne-eqb, not-false}
 use borrow.Author.Needs.{needs}
 use Rattle.pattern.specs.Counting.{counted}

@@ -27,7 +27,7 @@ use Rattle.bus.specs.Calls.{Sends}
 use Rattle.bus.specs.declared.Bus.{Bus}
 use Rattle.bus.specs.declared.Driven.the-variants.{Now}
 use Rattle.bus.proofs.Answers.{one-start, one-send}
-use Rattle.rows.specs.Rows.{makes, reads, sends, Rows}
+use Rattle.starred.specs.Rows.{makes, reads, sends, Rows}
 
 -- a word that leaves nothing and whose run bits are right is lawful
 lawful-0 : Lawful 0x0000400020001AB2

@@ -1,5 +1,5 @@
 #!/usr/bin/env python3
-"""Prints the constant tables of the crates poly and bch as Rattle source.
+"""Prints the constant tables of the crate tables as Rattle source.
 
 usage: tables.py bytes|corrections
 

@@ -1,14 +1,16 @@
-// What the cases and their answers share: the kinds, as crates/answers/src/main.rt numbers and lays them out, and the limits.
+// What the cases and their answers share: the kinds and their heads, as crates/answers/src/main.rt numbers and lays them out, and the limits.
 #ifndef CODES_H
 #define CODES_H
 #include "../plain.h"
 
-enum { HIER_MAKE = 1, HIER_READ, DAP_MAKE, DAP_READ, BUS_FRESH, BUS_SEND, BUS_RECEIVE, START, FILL, FRESH, FEED, RUN, KINDS };
+enum { HIER_MAKE = 1, HIER_READ, DAP_MAKE, DAP_READ, BUS, START, FILL, FEED, TALLY, LANE, KINDS };
 
-enum { MOST_CASES = 65536, LONGEST = 65536 }; // bytes of a file of cases; bytes of a piece or a buffer
+enum { NAME = 16, KIND = NAME, TAKEN = KIND + 8, LENT = TAKEN + 8, SPLIT = LENT + 8, VALUES = SPLIT + 8, HEAD = VALUES + 6 * 8 }; // of a head
 
-#define MOST_BITS (((uint64_t)1 << 53) - 1) // compared by a counter
+enum { LONGEST = 65536 }; // bytes of a piece or a buffer
 
-int answers(void);                            // answers the cases on standard input, a line each
-int cases(const char *name, uint64_t number); // writes cases: see cases/cases.c
+#define MOST (((uint64_t)1 << 53) - 1) // bits compared by a counter, frames in a tally
+
+int answers(void);            // answers the cases on standard input, a line each
+int cases(const char *group); // writes cases: see cases/cases.c
 #endif

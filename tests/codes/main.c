@@ -2,14 +2,14 @@
 // one, and nothing is taken from the proved crates.
 //
 // usage: independent answers              answers the cases on standard input, a line each
-//        independent cases NAME NUMBER    writes cases, as cases/cases.c has them
+//        independent cases GROUP          writes cases, as cases/cases.c has them
 #include "codes.h"
 
 int main(int argc, char **argv)
 {
     if (argc == 2 && !strcmp(argv[1], "answers"))
         return answers();
-    if (argc == 4 && !strcmp(argv[1], "cases"))
-        return cases(argv[2], strtoul(argv[3], NULL, 10));
+    if (argc == 3 && !strcmp(argv[1], "cases"))
+        return cases(argv[2]);
     return 2;
 }

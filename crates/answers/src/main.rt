@@ -1,82 +1,79 @@
-// Answers cases that stand on standard input, one line a case. A case is a byte for its kind, two bytes for the length of its body, and the
-// body. Every number stands highest byte first; one of which not all bytes are in the body is 0, and a part that runs past it is empty.
+// Answers the cases on standard input, a line a case, until one's head is not all there. A head is 96 bytes: a name of 16, which begins the
+// line, and ten numbers of eight bytes, highest first: the kind, how many bytes follow, how many are lent, how many of these are the first
+// part, and six values, a to f. One buffer of 65,537 bytes, all 0 at first, serves all cases: the bytes that follow are read to its front,
+// and what is lent is its front. A length is held to what there is, and a value to the width of what it stands for.
 //
-//  1 hier make      data 1
-//  2 hier read      block 2
-//  3 dap make       length of each output 1 and 1, the rest the data
-//  4 dap read       parity 1, length of the first copy 1, the first copy, the rest the second
-//  5 bus fresh      width 4
-//  6 bus send       width 4, wires 4, invert 1, data 4
-//  7 bus receive    width 4, wires 4, invert 1
-//  8 pattern start  pattern 1, register 8
-//  9 pattern fill   pattern 1, register 8, bytes to fill 4, held to 65,537
-// 10 pattern fresh  pattern 1
-// 11 pattern feed   pattern 1, filled 8, register 8, bits 8, errors 8, and pieces, each with its length 2 before it
-// 12 pattern run    the same five, bytes in the piece 4, held to 65,537, and the byte that each of them is 1
+//  1 hier make      data a
+//  2 hier read      block a
+//  3 dap make       lengths of the outputs a and b; the data is the first part
+//  4 dap read       parity a; the copies are the two parts
+//  5 bus            width a, wires b, invert c, data d: fresh, sent, received
+//  6 pattern start  pattern a, register b: the generator's, the counter's
+//  7 pattern fill   pattern a, register b; of what is lent and filled the first part is shown
+//  8 pattern feed   pattern a, filled b, register c, bits d, errors e: fed the first part; and the report before it is fed
+//  9 tally add      the six counts; the verdicts are the first part, the flags the second
+// 10 lane count     the six counts; the piece is the first part. So is any other kind.
 mod blocks;
 mod copies;
-mod counts;
 mod fields;
-mod fills;
+mod patterns;
 mod say;
+mod tallies;
 mod wires;
 
-use libc::STDERR_FILENO;
+use libc::STDOUT_FILENO;
 
-fn answer(kind: u8, body: &[u8]) {
+fn on_lists<'a>(kind: u64, head: &[u8], first: &'a [u8], second: &'a [u8]) {
     match kind {
-        1 => blocks::make(body),
-        2 => blocks::read(body),
-        3 => copies::make(body),
-        4 => copies::read(body),
-        5 => wires::fresh(body),
-        6 => wires::send(body),
-        7 => wires::receive(body),
-        8 => fills::start(body),
-        9 => fills::fill(body),
-        10 => counts::fresh(body),
-        11 => counts::feed(body),
-        12 => counts::run(body),
-        _ => say::text(b"no such kind\n"),
+        1 => blocks::make(head),
+        2 => blocks::read(head),
+        3 => copies::make(head, first),
+        4 => copies::read(head, first, second),
+        5 => wires::all(head),
+        6 => patterns::start(head),
+        8 => patterns::feed(head, first),
+        9 => tallies::add(head, first, second),
+        _ => tallies::count(head, first),
     }
 }
 
-// Each case in turn, up to one that is cut off.
-fn answers(s: &[u8]) {
-    let mut at = 0;
-    while at < s.len() {
-        let left = s.len() - at;
-        if left < 3 {
-            say::text(b"cut off\n");
-            return;
-        }
-        let kind = s[at];
-        let n = fields::two(s, at + 1);
-        if left - 3 < n {
-            say::text(b"cut off\n");
-            return;
-        }
-        let start = at + 3;
-        let end = start + n;
-        answer(kind, &s[start..end]);
-        at = end;
+fn answer(head: &[u8], list: &[u8]) {
+    let m = fields::within(head, 5, list);
+    on_lists(octets::number(head, 2), head, &list[..m], &list[m..]);
+}
+
+// The one kind that writes to what it is lent, or another.
+fn lent(head: &[u8], list: &mut [u8]) {
+    let name = io::count(16, head);
+    io::write_all(STDOUT_FILENO, &head[..name]);
+    if octets::number(head, 2) == 7 {
+        patterns::fill(head, list);
+    } else {
+        answer(head, list);
     }
+}
+
+// One case, answered; whether there may be another.
+fn turn(buffer: &mut [u8]) -> bool {
+    let mut head = [0u8; 96];
+    if input::fill(&mut head).bytes < 96 {
+        return false;
+    }
+    let k = fields::within(&head, 3, buffer);
+    input::fill(&mut buffer[..k]);
+    let n = fields::within(&head, 4, buffer);
+    lent(&head, &mut buffer[..n]);
+    io::write_all(STDOUT_FILENO, b"\n");
+    true
 }
 
 fn main() {
     let mut buffer = [0u8; 65537];
-    let filled = input::fill(&mut buffer);
-    if filled.failed {
-        io::write_all(
-            STDERR_FILENO,
-            b"answers: standard input could not be read\n",
-        );
-        return;
+    let mut turns = 1u64 << 41;
+    while 0 < turns {
+        if !turn(&mut buffer) {
+            return;
+        }
+        turns -= 1;
     }
-    let n = filled.bytes;
-    if 65536 < n {
-        io::write_all(STDERR_FILENO, b"answers: more than 65,536 bytes of cases\n");
-        return;
-    }
-    answers(&buffer[..n]);
 }

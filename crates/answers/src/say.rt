@@ -1,34 +1,42 @@
-// Words, numbers and bytes on standard output.
-use crate::fields;
+// Numbers and bytes on standard output, a space after each.
+ghost use Prim.Native.Nat.{_<_, _≤_};
+ghost use lib.ListN.{length};
 use libc::STDOUT_FILENO;
-
-pub(crate) fn text(s: &[u8]) {
-    io::write_all(STDOUT_FILENO, s);
-}
 
 pub(crate) fn number(n: u64) {
     io::print_decimal(STDOUT_FILENO, n);
+    io::write_all(STDOUT_FILENO, b" ");
 }
 
-pub(crate) fn hexadecimal(n: u64, digits: usize) {
-    io::print_hex(STDOUT_FILENO, n, digits);
+pub(crate) fn three(a: u64, b: u64, c: u64) {
+    number(a);
+    number(b);
+    number(c);
 }
 
 pub(crate) fn refused(n: u8) {
-    text(b"refused ");
+    io::write_all(STDOUT_FILENO, b"refused ");
     number(n as u64);
+}
+
+// Prints the next eight bytes, or the next one where there are fewer; answers how many.
+fn some(s: &[u8]) -> usize
+    requires { ⌜ 0 < length (now s) ⌝ }
+    ensures { λ r. ⌜ (0 < r) × (r ≤ length (now (s .entry))) ⌝ }
+{
+    if 8 <= s.len() {
+        io::print_hex(STDOUT_FILENO, octets::number(s, 0), 16);
+        return 8;
+    }
+    io::print_hex(STDOUT_FILENO, s[0] as u64, 2);
+    1
 }
 
 // Two digits a byte.
 pub(crate) fn bytes(s: &[u8]) {
     let mut at = 0;
     while at < s.len() {
-        if 8 <= s.len() - at {
-            hexadecimal(fields::eight(s, at), 16);
-            at += 8;
-        } else {
-            hexadecimal(fields::one(s, at) as u64, 2);
-            at += 1;
-        }
+        at += some(&s[at..]);
     }
+    io::write_all(STDOUT_FILENO, b" ");
 }

@@ -1,45 +1,60 @@
 #include "answers.h"
 
-const uint8_t *body;
-uint64_t size;
+uint64_t values[6];
+struct list lent, first, second;
 
-uint64_t field(uint64_t at, uint64_t bytes)
-{
-    uint64_t n = 0;
-    if (at + bytes > size)
-        return 0;
-    for (uint64_t i = 0; i < bytes; i++)
-        n = n * 256 + body[at + i];
-    return n;
-}
+uint64_t low(uint64_t i, int bytes) { return values[i] & (((uint64_t)1 << 8 * bytes) - 1); }
 
 int bit_of(const uint8_t *bytes, uint64_t i) { return bytes[i / 8] >> (7 - i % 8) & 1; }
 
+void print(uint64_t n) { printf("%lu ", n); }
+
+void print_refusal(int n) { printf("refused %d ", n); }
+
+void print_bytes(const uint8_t *bytes, uint64_t n)
+{
+    for (uint64_t i = 0; i < n; i++)
+        printf("%02x", bytes[i]);
+    putchar(' ');
+}
+
 static void (*const kinds[KINDS])(void) = {
-    [HIER_MAKE] = hier_make, [HIER_READ] = hier_read, [DAP_MAKE] = dap_make,       [DAP_READ] = dap_read,
-    [BUS_FRESH] = bus_fresh, [BUS_SEND] = bus_send,   [BUS_RECEIVE] = bus_receive, [START] = pattern_start,
-    [FILL] = pattern_fill,   [FRESH] = pattern_fresh, [FEED] = pattern_feed,       [RUN] = pattern_run,
+    [HIER_MAKE] = hier_make, [HIER_READ] = hier_read, [DAP_MAKE] = dap_make, [DAP_READ] = dap_read, [BUS] = bus,
+    [START] = pattern_start, [FILL] = pattern_fill,   [FEED] = pattern_feed, [TALLY] = tally_add,   [LANE] = lane_count,
 };
+
+// Fills as much as standard input has; answers whether that is all.
+static int take(uint8_t *to, uint64_t n)
+{
+    uint64_t done = 0;
+    for (long got; done < n && (got = read(0, to + done, n - done)) > 0;)
+        done += (uint64_t)got;
+    return done == n;
+}
+
+// The length that stands in a head, of four bytes, held to a limit.
+static uint64_t length(const uint8_t *head, int at, uint64_t most)
+{
+    uint64_t n = number_at(head + at) & 0xffffffff;
+    return n < most ? n : most;
+}
 
 int answers(void)
 {
-    static uint8_t input[MOST_CASES];
-    uint64_t n = 0, at = 0;
-    for (long got; n < MOST_CASES && (got = read(0, input + n, MOST_CASES - n)) > 0;)
-        n += (uint64_t)got;
-    while (at < n) {
-        uint64_t length = n - at < 3 ? n : (uint64_t)input[at + 1] * 256 + input[at + 2];
-        if (at + 3 + length > n) {
-            printf("cut off\n");
-            return 0;
-        }
-        body = input + at + 3;
-        size = length;
-        if (input[at] < KINDS && kinds[input[at]])
-            kinds[input[at]]();
-        else
-            printf("no such kind\n");
-        at += 3 + length;
+    static uint8_t head[HEAD], buffer[LONGEST + 1];
+    while (take(head, HEAD)) {
+        uint64_t kind = number_at(head + KIND);
+        take(buffer, length(head, TAKEN, sizeof buffer));
+        lent.bytes = first.bytes = buffer;
+        lent.size = length(head, LENT, sizeof buffer);
+        first.size = length(head, SPLIT, lent.size);
+        second.bytes = buffer + first.size;
+        second.size = lent.size - first.size;
+        for (int i = 0; i < 6; i++)
+            values[i] = number_at(head + VALUES + 8 * i);
+        printf("%.16s", (const char *)head);
+        (kind && kind < KINDS ? kinds[kind] : lane_count)();
+        putchar('\n');
     }
     return 0;
 }

@@ -1,24 +1,30 @@
-// The case in hand, and what answers each kind.
+// The case in hand, and what answers each kind. A number is printed with a space after it.
 #ifndef ANSWERS_H
 #define ANSWERS_H
 #include "../codes.h"
 
-extern const uint8_t *body;
-extern uint64_t size;
+struct list {
+    uint8_t *bytes;
+    uint64_t size;
+};
 
-uint64_t field(uint64_t at, uint64_t bytes); // of the body, highest byte first; 0 where not all of it is there
+extern uint64_t values[6];
+extern struct list lent, first, second; // what is lent whole; its two parts
+
+uint64_t low(uint64_t i, int bytes); // the low bytes of a value
 int bit_of(const uint8_t *bytes, uint64_t i);
+void print(uint64_t n);
+void print_refusal(int n);
+void print_bytes(const uint8_t *bytes, uint64_t n);
 
 void hier_make(void);
 void hier_read(void);
 void dap_make(void);
 void dap_read(void);
-void bus_fresh(void);
-void bus_send(void);
-void bus_receive(void);
+void bus(void);
 void pattern_start(void);
 void pattern_fill(void);
-void pattern_fresh(void);
 void pattern_feed(void);
-void pattern_run(void);
+void tally_add(void);
+void lane_count(void);
 #endif

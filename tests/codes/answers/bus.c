@@ -24,35 +24,36 @@ static uint64_t number_of(const int wires[32], int inverted, uint64_t width)
     return n;
 }
 
-void bus_fresh(void)
+static void print_state(uint64_t width, uint64_t wires, uint64_t invert)
 {
-    uint64_t width = field(0, 4);
-    if (lawful_width(width))
-        printf("bus fresh: width %lu wires 0 invert 0\n", width);
-    else
-        printf("bus fresh: refused 11\n");
+    print(width);
+    print(wires);
+    print(invert);
 }
 
-void bus_send(void)
+static void send(uint64_t width, const int present[32], const int data[32])
 {
-    uint64_t width = field(0, 4);
-    int present[32], data[32], changed = 0;
-    if (!wires_of(width, field(4, 4), present) || !wires_of(width, field(9, 4), data) || field(8, 1) > 1) {
-        printf("bus send: refused 11\n");
-        return;
-    }
+    int changed = 0;
     for (uint64_t i = 0; i < width; i++)
         changed += present[i] != data[i];
     int invert = 2 * changed > (int)width;
-    printf("bus send: width %lu wires %lu invert %d\n", width, number_of(data, invert, width), invert);
+    print_state(width, number_of(data, invert, width), (uint64_t)invert);
 }
 
-void bus_receive(void)
+void bus(void)
 {
-    uint64_t width = field(0, 4), invert = field(8, 1);
-    int wires[32];
-    if (wires_of(width, field(4, 4), wires) && invert <= 1)
-        printf("bus receive: %lu\n", number_of(wires, (int)invert, width));
+    uint64_t width = low(0, 4), invert = low(2, 1);
+    int present[32], data[32], lawful = wires_of(width, low(1, 4), present) && invert <= 1;
+    if (lawful_width(width))
+        print_state(width, 0, 0);
     else
-        printf("bus receive: refused 11\n");
+        print_refusal(11);
+    if (lawful && wires_of(width, low(3, 4), data))
+        send(width, present, data);
+    else
+        print_refusal(11);
+    if (lawful)
+        print(number_of(present, (int)invert, width));
+    else
+        print_refusal(11);
 }

@@ -1,6 +1,5 @@
 // The generator of the test patterns.
-#include "../stream.h"
-#include "answers.h"
+#include "counter.h"
 
 static int refusal_of(uint64_t pattern, uint64_t held, uint64_t bytes)
 {
@@ -11,32 +10,39 @@ static int refusal_of(uint64_t pattern, uint64_t held, uint64_t bytes)
     return held ? 0 : 18;
 }
 
-void pattern_start(void)
+static void print_generator(uint64_t pattern, uint64_t held)
 {
-    uint64_t pattern = field(0, 1), held = field(1, 8);
-    int refusal = refusal_of(pattern, held, 0);
-    if (refusal)
-        printf("pattern start: refused %d\n", refusal);
-    else
-        printf("pattern start: pattern %lu register %lu\n", pattern, held);
+    print(pattern);
+    print(held);
 }
 
+void pattern_start(void)
+{
+    struct counter fresh = {low(0, 1), 0, 0, 0, 0};
+    int refusal = refusal_of(fresh.pattern, values[1], 0);
+    if (refusal)
+        print_refusal(refusal);
+    else
+        print_generator(fresh.pattern, values[1]);
+    if (second_tap(fresh.pattern))
+        print_counter(fresh);
+    else
+        print_refusal(11);
+}
+
+// What is lent holds the pattern afterwards, on this side too: a later case may be lent it again.
 void pattern_fill(void)
 {
     static uint8_t line[31 + 8 * LONGEST];
-    uint64_t pattern = field(0, 1), held = field(1, 8), asked = field(9, 4), bytes = asked > LONGEST ? LONGEST + 1 : asked;
-    int refusal = refusal_of(pattern, held, bytes);
-    if (refusal) {
-        printf("pattern fill: refused %d bytes ", refusal);
-        for (uint64_t i = 0; i < bytes; i++)
-            printf("ee");
-        putchar('\n');
-        return;
+    uint64_t pattern = low(0, 1), end = pattern + 8 * lent.size;
+    int refusal = refusal_of(pattern, values[1], lent.size);
+    if (refusal)
+        print_refusal(refusal);
+    else {
+        stream(line, pattern, values[1], end);
+        print_generator(pattern, take_register(line + end, pattern));
+        for (uint64_t i = 0; i < lent.size; i++)
+            lent.bytes[i] = (uint8_t)take_register(line + pattern + 8 * i + 8, 8);
     }
-    uint64_t end = pattern + 8 * bytes;
-    stream(line, pattern, held, end);
-    printf("pattern fill: pattern %lu register %lu bytes ", pattern, take_register(line + end, pattern));
-    for (uint64_t i = pattern; i < end; i += 4)
-        putchar("0123456789abcdef"[take_register(line + i + 4, 4)]);
-    putchar('\n');
+    print_bytes(first.bytes, first.size);
 }

@@ -14,17 +14,16 @@ static void lawful_block(uint64_t v, uint64_t c, char bits[16])
 
 void hier_make(void)
 {
-    uint64_t data = field(0, 1), block = 0;
+    uint64_t data = low(0, 1), block = 0;
     char bits[16];
-    printf("hier make %lu: ", data);
     if (data > 127) {
-        printf("refused 11\n");
+        print_refusal(11);
         return;
     }
     lawful_block(data / 16, data % 16, bits);
     for (int i = 0; i < 16; i++)
         block = block * 2 + (bits[i] == '1');
-    printf("%04lx\n", block);
+    printf("%04lx", block);
 }
 
 // The bits in which a block differs from a lawful one; -1 where they are not at most two, each in a symbol of its own.
@@ -44,7 +43,7 @@ static int apart(uint64_t block, const char bits[16])
 
 void hier_read(void)
 {
-    uint64_t block = field(0, 2), data = 0;
+    uint64_t block = low(0, 2), data = 0;
     int found = 0, flips = 0;
     char bits[16];
     for (uint64_t k = 0; k < 9 * 16; k++) {
@@ -58,11 +57,12 @@ void hier_read(void)
     }
     if (found > 1)
         abort();
-    printf("hier read %04lx: ", block);
     if (!found)
-        printf("refused 15\n");
+        print_refusal(15);
     else if (data / 16 == 8)
-        printf("refused 16\n");
-    else
-        printf("%lu flips %d\n", data, flips);
+        print_refusal(16);
+    else {
+        print(data);
+        print((uint64_t)flips);
+    }
 }

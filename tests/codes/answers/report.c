@@ -23,19 +23,22 @@ static uint64_t quotient(uint64_t n, uint64_t d)
 
 void print_counter(struct counter c)
 {
-    printf("pattern %lu filled %lu register %lu bits %lu errors %lu", c.pattern, c.filled, c.held, c.bits, c.errors);
+    print(c.pattern);
+    print(c.filled);
+    print(c.held);
+    print(c.bits);
+    print(c.errors);
 }
 
 void print_report(struct counter c)
 {
-    print_counter(c);
-    printf(" report ");
     if (!in_range(c))
-        printf("refused 11\n");
+        print_refusal(11);
     else if (!c.bits)
-        printf("refused 19\n");
-    else if (c.errors)
-        printf("measured %lu of %lu %016lx\n", c.errors, c.bits, quotient(c.errors, c.bits));
-    else
-        printf("ceiling 0 of %lu %016lx\n", c.bits, quotient(3, c.bits));
+        print_refusal(19);
+    else {
+        print(c.bits);
+        print(c.errors);
+        printf("%016lx", quotient(c.errors ? c.errors : 3, c.bits));
+    }
 }

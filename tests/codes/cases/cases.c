@@ -1,40 +1,55 @@
-// Cases for crates/answers, a file at a time: what is asked, not what the answer is.
+// Cases for crates/answers, a group at a time: what is asked, not what the answer is.
 #include "cases.h"
 
 static const struct {
     const char *name;
-    void (*write)(uint64_t number);
-} names[] = {
-    {"hier", hier_cases},     // N: the 256 numbers (N = 0), then every block, 13,107 a file (N = 1 to 6: the last has one)
-    {"dap", dap_cases},       // SEED: copies with up to three flips, of lawful and unlawful lengths, and outputs of any length
-    {"bus", bus_cases},       // 0: every state and datum of widths 1 to 4; SEED: any width, changes about half of it, states out of range
-    {"fill", fill_cases},     // 0: buffers about 65,536 bytes; SEED: short ones, registers and patterns out of range
-    {"feed", feed_cases},     // SEED: pieces of a pattern with a few flips, from any state, in range and not
-    {"run", run_cases},       // 0: pieces about 65,536 bytes, and counts about 2^53 - 1
-    {"broken", broken_cases}, // N: cut off (0 to 3), bodies too short and no such kind (4), no case (5), 65,536 bytes (6), one more (7)
+    void (*write)(void);
+} groups[] = {
+    {"rows", rows},         // the bench rows, the worked examples and the outside vectors: what crates/answers/stdin has
+    {"hier", hier_cases},   // every data byte and every block
+    {"dap", dap_cases},     // all double errors of two bytes; copies with up to three flips, lengths lawful and not, outputs of any length
+    {"bus", bus_cases},     // every state and datum of widths 1 to 4; any width, changes about half of it, states out of range
+    {"fill", fill_cases},   // every pattern; buffers about 65,536 bytes; short ones, registers and patterns out of range
+    {"feed", feed_cases},   // pieces of a pattern with a few flips, from any state, in range and not; pieces about 65,536 bytes
+    {"tally", tally_cases}, // states about each limit, lists of unequal lengths, no verdicts, no flags, and all of these at once
+    {"lane", lane_cases},   // the same states; pieces of frames with up to three flips, and such about 65,536 bytes
 };
 
-struct file file;
+struct next next;
 static uint64_t state;
 
-void put(uint64_t n, uint64_t bytes)
+static void out(const uint8_t *bytes, uint64_t n)
 {
-    while (bytes--)
-        file.body[file.size++] = (uint8_t)(n >> 8 * bytes);
+    while (n) {
+        long done = write(1, bytes, n);
+        if (done <= 0)
+            exit(1);
+        bytes += done;
+        n -= (uint64_t)done;
+    }
 }
 
-int add(uint64_t kind)
+void put(uint64_t byte) { next.list[next.size++] = (uint8_t)byte; }
+
+void split(void) { next.split = next.size + 1; }
+
+// What is lent and not brought by the case is what an earlier one left.
+void add(uint64_t kind, const char *name)
 {
-    uint64_t n = file.size;
-    file.size = 0;
-    if (file.used + 3 + n > MOST_CASES)
-        return 0;
-    file.bytes[file.used++] = (uint8_t)kind;
-    file.bytes[file.used++] = (uint8_t)(n >> 8);
-    file.bytes[file.used++] = (uint8_t)n;
-    memcpy(file.bytes + file.used, file.body, n);
-    file.used += n;
-    return 1;
+    static uint8_t head[HEAD];
+    uint64_t lent = next.size + next.extra;
+    memset(head, ' ', NAME);
+    for (int i = 0; name[i]; i++)
+        head[i] = (uint8_t)name[i];
+    put_number(head + KIND, kind);
+    put_number(head + TAKEN, next.size);
+    put_number(head + LENT, lent);
+    put_number(head + SPLIT, next.split ? next.split - 1 : lent);
+    for (int i = 0; i < 6; i++)
+        put_number(head + VALUES + 8 * i, next.values[i]);
+    out(head, HEAD);
+    out(next.list, next.size);
+    next.size = next.split = next.extra = 0;
 }
 
 void seed(uint64_t number) { state = number; }
@@ -47,12 +62,12 @@ int one_in(uint64_t n) { return below(n) == 0; }
 
 uint64_t one_of(const uint64_t *list, uint64_t n) { return list[below(n)]; }
 
-int cases(const char *name, uint64_t number)
+int cases(const char *group)
 {
-    for (size_t i = 0; i < sizeof names / sizeof names[0]; i++)
-        if (!strcmp(name, names[i].name)) {
-            names[i].write(number);
-            return write(1, file.bytes, file.used) != (long)file.used;
+    for (size_t i = 0; i < sizeof groups / sizeof groups[0]; i++)
+        if (!strcmp(group, groups[i].name)) {
+            groups[i].write();
+            return 0;
         }
     return 2;
 }

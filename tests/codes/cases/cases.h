@@ -1,15 +1,18 @@
-// The file of cases that is written, chance, and who writes the cases of each name.
+// The case that is written next, chance, and who writes the cases of each group.
 #ifndef CASES_H
 #define CASES_H
 #include "../codes.h"
 
-extern struct file {
-    uint8_t bytes[MOST_CASES + 1], body[MOST_CASES];
-    uint64_t used, size; // of the bytes; of the body of the next case
-} file;
+extern struct next {
+    uint64_t values[6], split, extra; // of the list, the length of its first part; bytes lent past those that the case brings
+    uint8_t list[LONGEST + 1];
+    uint64_t size;
+} next;
 
-void put(uint64_t n, uint64_t bytes); // into the body, highest byte first
-int add(uint64_t kind);               // ends a case; 0 where the file has no room for it
+void put(uint64_t byte);                   // into the list
+void split(void);                          // the first part ends here: it is the whole list, where this is not called
+void add(uint64_t kind, const char *name); // writes the case, with the values of `next`
+#define VALUES_OF(...) memcpy(next.values, (const uint64_t[6]){__VA_ARGS__}, sizeof next.values)
 
 void seed(uint64_t number);
 uint64_t any(void);
@@ -20,11 +23,12 @@ uint64_t one_of(const uint64_t *list, uint64_t n);
 
 uint64_t some_pattern(void); // mostly one that there is
 
-void hier_cases(uint64_t chunk);
-void dap_cases(uint64_t seed);
-void bus_cases(uint64_t seed);
-void fill_cases(uint64_t seed);
-void feed_cases(uint64_t seed);
-void run_cases(uint64_t number);
-void broken_cases(uint64_t number);
+void rows(void);
+void hier_cases(void);
+void dap_cases(void);
+void bus_cases(void);
+void fill_cases(void);
+void feed_cases(void);
+void tally_cases(void);
+void lane_cases(void);
 #endif

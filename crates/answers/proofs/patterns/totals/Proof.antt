@@ -1,0 +1,43 @@
+-- `answers::patterns::totals` is safe: what equals itself is no NaN.
+use mathlib.Core.Path.{sym, subst}
+use mathlib.Core.Bool.{Bool, not}
+use lib.Dec.{T}
+use lib.Ieee.{Float, nan, inf, fin, eq, isNan}
+use borrow.Author.Needs.{needs}
+use Rattle.answers.proofs.patterns.totals.Statement.{statement}
+use Rattle.answers.proofs.patterns.totals.Tie as tie
+
+number-requires : tie.Need-number-requires
+number-requires c κs = search needs
+
+number-requires-2 : tie.Need-number-requires-2
+number-requires-2 c κs = search needs
+
+no-nan : (x : Float) → T (eq x x) → T (not (isNan x))
+unfolding eq isNan
+no-nan nan t = absurd t
+no-nan (inf s) t = tt
+no-nan (fin s m e) t = tt
+
+float-to-bits-print-hex : tie.Need-float-to-bits-print-hex
+float-to-bits-print-hex c = no-nan _ (subst (λ (b : Bool). T b) (sym (c .if1 .taken)) tt)
+
+print-hex-requires : tie.Need-print-hex-requires
+print-hex-requires c κs = search needs
+
+returns : tie.Need-returns
+returns c = search needs
+
+returns-2 : tie.Need-returns-2
+returns-2 c = search needs
+
+pub totals-spec : {M : Type 1} → statement M
+totals-spec =
+    tie.close
+    (tie.spec
+    number-requires
+    number-requires-2
+    float-to-bits-print-hex
+    print-hex-requires
+    returns
+    returns-2)

@@ -1,0 +1,41 @@
+// The tally's answers, and those of the lane that feeds it.
+use crate::say;
+use lane::Counted;
+use tally::Added;
+use tally::Tally;
+
+fn handed_in(head: &[u8]) -> Tally {
+    Tally {
+        clean: octets::number(head, 6),
+        one: octets::number(head, 7),
+        two: octets::number(head, 8),
+        no_word: octets::number(head, 9),
+        run_broken: octets::number(head, 10),
+        pad_wrong: octets::number(head, 11),
+    }
+}
+
+fn tallied(t: Tally) {
+    say::three(t.clean, t.one, t.two);
+    say::three(t.no_word, t.run_broken, t.pad_wrong);
+}
+
+pub(crate) fn add(head: &[u8], verdicts: &[u8], pads: &[u8]) {
+    let r = handed_in(head).add_list(verdicts, pads);
+    if let Added::Next(t) = r {
+        tallied(t);
+    } else {
+        say::refused(tally::number_of(r));
+    }
+}
+
+pub(crate) fn count(head: &[u8], piece: &[u8]) {
+    let r = lane::count(handed_in(head), piece);
+    if let Counted::Next(u) = r {
+        tallied(u.tally);
+        say::number(u.frames);
+        say::number(u.left);
+    } else {
+        say::refused(lane::number_of(r));
+    }
+}

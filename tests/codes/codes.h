@@ -1,11 +1,12 @@
-// What the cases and their answers share: the kinds and their heads, as crates/answers/src/main.rt numbers and lays them out, and the limits.
+// What the cases and their answers share: the kinds and their heads, as crates/answers/src/main.rt has them, and the limits.
 #ifndef CODES_H
 #define CODES_H
 #include "../plain.h"
 
 enum { HIER_MAKE = 1, HIER_READ, DAP_MAKE, DAP_READ, BUS, START, FILL, FEED, TALLY, LANE, KINDS };
 
-enum { NAME = 16, KIND = NAME, TAKEN = KIND + 8, LENT = TAKEN + 8, SPLIT = LENT + 8, VALUES = SPLIT + 8, HEAD = VALUES + 6 * 8 }; // of a head
+// the length of a name, where each number of a head stands, and the length of a head
+enum { NAME = 16, KIND = NAME, TAKEN = KIND + 8, LENT = TAKEN + 8, SPLIT = LENT + 8, VALUES = SPLIT + 8, HEAD = VALUES + 6 * 8 };
 
 enum { LONGEST = 65536 }; // bytes of a piece or a buffer
 

@@ -48,10 +48,9 @@ pub(crate) fn fill(head: &[u8], out: &mut [u8]) {
     say::bytes(&out[..m]);
 }
 
-// The bits of a number that is one: a quotient that is none prints nothing.
-fn totals(bits: u64, errors: u64, x: f64) {
-    say::number(bits);
-    say::number(errors);
+// 1 for a ratio, 0 for a ceiling, and the bits of a number that is one: a quotient that is none prints nothing.
+fn totals(measured: u64, bits: u64, errors: u64, x: f64) {
+    say::three(measured, bits, errors);
     if x == x {
         io::print_hex(STDOUT_FILENO, f64::to_bits(x), 16);
     }
@@ -63,12 +62,12 @@ fn reported(c: Counter) {
             bits,
             errors,
             ratio,
-        } => totals(bits, errors, ratio),
+        } => totals(1, bits, errors, ratio),
         Report::Ceiling {
             bits,
             errors,
             ceiling,
-        } => totals(bits, errors, ceiling),
+        } => totals(0, bits, errors, ceiling),
         Report::Refused(n) => say::refused(n),
     }
 }

@@ -37,6 +37,7 @@ void print_report(struct counter c)
     else if (!c.bits)
         print_refusal(19);
     else {
+        print(c.errors > 0);
         print(c.bits);
         print(c.errors);
         printf("%016lx", quotient(c.errors ? c.errors : 3, c.bits));

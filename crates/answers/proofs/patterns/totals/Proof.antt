@@ -7,11 +7,8 @@ use borrow.Author.Needs.{needs}
 use Rattle.answers.proofs.patterns.totals.Statement.{statement}
 use Rattle.answers.proofs.patterns.totals.Tie as tie
 
-number-requires : tie.Need-number-requires
-number-requires c κs = search needs
-
-number-requires-2 : tie.Need-number-requires-2
-number-requires-2 c κs = search needs
+three-requires : tie.Need-three-requires
+three-requires c κs = search needs
 
 no-nan : (x : Float) → T (eq x x) → T (not (isNan x))
 unfolding eq isNan
@@ -35,8 +32,7 @@ pub totals-spec : {M : Type 1} → statement M
 totals-spec =
     tie.close
     (tie.spec
-    number-requires
-    number-requires-2
+    three-requires
     float-to-bits-print-hex
     print-hex-requires
     returns

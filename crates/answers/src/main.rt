@@ -21,6 +21,8 @@ mod say;
 mod tallies;
 mod wires;
 
+use input::Input;
+use libc::STDERR_FILENO;
 use libc::STDOUT_FILENO;
 
 fn on_lists<'a>(kind: u64, head: &[u8], first: &'a [u8], second: &'a [u8]) {
@@ -53,10 +55,25 @@ fn lent(head: &[u8], list: &mut [u8]) {
     }
 }
 
+// Whether a head was read whole.
+fn whole(i: Input) -> bool {
+    match i {
+        Input::Full => true,
+        Input::Last(_) => false,
+        Input::Failed => {
+            io::write_all(
+                STDERR_FILENO,
+                b"answers: standard input could not be read\n",
+            );
+            false
+        }
+    }
+}
+
 // One case, answered; whether there may be another.
 fn turn(buffer: &mut [u8]) -> bool {
     let mut head = [0u8; 96];
-    if input::fill(&mut head).bytes < 96 {
+    if !whole(input::fill(&mut head)) {
         return false;
     }
     let k = fields::within(&head, 3, buffer);

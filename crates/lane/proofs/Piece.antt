@@ -1,9 +1,8 @@
--- What the two functions of a piece come to.
+-- What the functions of a piece come to.
 -- ┌───────────────┬────────────────────────────────────────────────────────────────┐
 -- │ seen-in       │ numbers taken and read as a list are the frames seen           │
--- │ counts-next   │ where the tally takes them, the totals                         │
--- │ counts-refuse │ where it refuses, its number                                   │
 -- │ few-frames    │ a tally that was taken has few enough frames to sum            │
+-- │ counts-answer │ the answer to the tally's answer is the count's                │
 -- └───────────────┴────────────────────────────────────────────────────────────────┘
 use mathlib.Core.Path.{_≡_, refl, sym, ap, _∙_, subst}
 use mathlib.Core.List.{List}
@@ -24,10 +23,11 @@ use Rattle.tally.specs.Adds.{Adds}
 use Rattle.tally.specs.Adds.{numberOf as tallyNumber}
 use Rattle.tally.specs.declared.Tally.{Tally}
 use Rattle.tally.specs.declared.Added.{Added}
-use Rattle.tally.specs.declared.Added.the-variants.{Next as Taken-on}
+use Rattle.tally.specs.declared.Added.the-variants.{Next as Taken-on, Unequal, OutOfRange as Outside, Full as Past}
 use Rattle.tally.proofs.Answers.{stays-in-range}
 use Rattle.laws.proofs.Truth.{two}
 use Rattle.lane.specs.Counts.{SeenIn, numberOf, totalsOf, Counts}
+use Rattle.lane.specs.Parts.{answerTo, Few}
 use Rattle.lane.specs.declared.Totals.{Totals}
 use Rattle.lane.specs.declared.Counted.{Counted}
 use Rattle.lane.specs.declared.Counted.the-variants.{Next}
@@ -43,9 +43,9 @@ fronted bs o₀ o n h t =
     )
 
 -- outputs that are long enough are written
-answered : (fs ds vs ps : List ℕ) (n : ℕ) → n ≡ readPadsAnswer fs ds vs ps
+fits : (fs ds vs ps : List ℕ) (n : ℕ) → n ≡ readPadsAnswer fs ds vs ps
     → length fs ≤ length ds → length fs ≤ length vs → length fs ≤ length ps → n ≡ 0
-answered fs ds vs ps n e a b c = e ∙ simp (le-ltb _ _ a, le-ltb _ _ b, le-ltb _ _ c)
+fits fs ds vs ps n e a b c = e ∙ simp (le-ltb _ _ a, le-ltb _ _ b, le-ltb _ _ c)
 
 -- what stands in an output for a frame of the piece
 shows : {R : ℕ → ℕ → Type 0} (bs : List ℕ) {fs o₀ o : List ℕ} (n : ℕ) → n ≤ length o → fs ≡ numbersOf bs → length (numbersOf bs) ≡ n
@@ -62,7 +62,7 @@ seen-in bs o₀ o ds₀ vs₀ ps₀ ds vs ps n m ho hd hv hp t r =
     let e : n ≡ length bs / 8 = f .0 in
     let l : length (numbersOf bs) ≡ n = numbers-len (length bs / 8) bs 0 ∙ sym e in
     let k : length (take n o) ≡ n = ap length (f .1) ∙ l in
-    let z : m ≡ 0 = answered (take n o) ds₀ vs₀ ps₀ m (r .number) (omega arith) (omega arith) (omega arith) in
+    let z : m ≡ 0 = fits (take n o) ds₀ vs₀ ps₀ m (r .number) (omega arith) (omega arith) (omega arith) in
     let wv : Written VerdictOf (take n o) vs₀ vs (length (take n o)) = r .verdicts .answered z in
     let wp : Written PadFlagOf (take n o) ps₀ ps (length (take n o)) = r .pads .answered z in
     let rv : n ≤ length vs = omega (arith, wv .size) in
@@ -78,30 +78,34 @@ seen-in bs o₀ o ds₀ vs₀ ps₀ ds vs ps n m ho hd hv hp t r =
       };
     }
 
-pub few-frames : {t u : Tally} {vs ps : List ℕ} → Adds t vs ps (Taken-on u) → framesIn u ≤ mostCounted
-few-frames {t} {u} {vs} {ps} a = leb-true _ _ (two _ _ (stays-in-range t u vs ps a) .0)
+pub few-frames : {t : Tally} {vs ps : List ℕ} {a : Added} → Adds t vs ps a → Few a
+few-frames {t} {vs} {ps} {a} d u e = leb-true _ _ (two _ _ (stays-in-range t u vs ps (subst (Adds t vs ps) e d)) .0)
 
-module _ (t : Tally) (bs : List ℕ) (n : ℕ) (vs ps : List ℕ) (h : length bs ≤ 65536) (s : SeenIn bs n vs ps) where
-  pub counts-next : (u : Tally) (w : Totals) → Adds t (take n vs) (take n ps) (Taken-on u) → w ≡ totalsOf u (length bs % 8) → Counts t bs (Next w)
-  counts-next u w a e =
-      inr (
-        h,
-        record {
-          vs = take n vs;
-          ps = take n ps;
-          seen = s .seen;
-          number = a .number;
-          next = λ x q. sym (same w x q) ∙ e ∙ ap (λ (v : Tally). totalsOf v (length bs % 8)) (a .next u refl);
-        },
-      )
-    where
-      same : (w x : Totals) → Next w ≡ Next x → w ≡ x
-      same w x e = cc
+-- the answer to an answer keeps its number
+number-kept : (a : Added) (left : ℕ) → numberOf (answerTo a left) ≡ tallyNumber a
+number-kept (Taken-on u) left = refl
+number-kept Unequal left = refl
+number-kept Outside left = refl
+number-kept Past left = refl
 
-  pub counts-refuse : (r : Added) (c : Counted) → Adds t (take n vs) (take n ps) r → numberOf c ≡ tallyNumber r
-      → (numberOf c ≡ 0 → ⊥) → Counts t bs c
-  counts-refuse r c a e never =
-      inr (
-        h,
-        record { vs = take n vs; ps = take n ps; seen = s .seen; number = e ∙ a .number; next = λ x q. absurd (never (ap numberOf q)) },
-      )
+-- and its tally
+next-kept : (a : Added) (left : ℕ) (w : Tally) (x : Totals) → ((u : Tally) → a ≡ Taken-on u → u ≡ w) → Next x ≡ answerTo a left
+    → x ≡ totalsOf w left
+next-kept (Taken-on u) left w x n e = let k : x ≡ totalsOf u left = cc in k ∙ ap (λ (v : Tally). totalsOf v left) (n u refl)
+next-kept Unequal left w x n e = cc
+next-kept Outside left w x n e = cc
+next-kept Past left w x n e = cc
+
+pub counts-answer : (t : Tally) (bs : List ℕ) (n : ℕ) (vs ps : List ℕ) (a : Added) (r : Counted) → length bs ≤ 65536 → SeenIn bs n vs ps
+    → Adds t (take n vs) (take n ps) a → r ≡ answerTo a (length bs % 8) → Counts t bs r
+counts-answer t bs n vs ps a r h s d e =
+    inr (
+      h,
+      record {
+        vs = take n vs;
+        ps = take n ps;
+        seen = s .seen;
+        number = ap numberOf e ∙ number-kept a (length bs % 8) ∙ d .number;
+        next = λ x q. next-kept a (length bs % 8) _ x (d .next) (sym q ∙ e);
+      },
+    )

@@ -1,10 +1,11 @@
 // The count of a lane: bytes to frames, frames to verdicts and pad flags, these to the tally.
 ghost use mathlib.Core.Path.{_≡_};
-ghost use Prim.Native.Nat.{_≤_};
+ghost use Prim.Native.Nat.{_%_, _≤_};
 ghost use Rattle.paper.specs.Numbers.{mostBytes, mostCounted};
 ghost use Rattle.tally.specs.Ranges.{framesIn};
 ghost use lib.ListN.{length};
 ghost use Rattle.lane.specs.Counts.{numberOf, totalsOf, SeenIn, Counts};
+ghost use Rattle.lane.specs.Parts.{answerTo, Few};
 use tally::Added;
 use tally::Tally;
 
@@ -47,6 +48,19 @@ fn with_frames(t: Tally, left: u64) -> Totals
     }
 }
 
+// The count's answer to the tally's, for a piece of so many bytes.
+fn answered(a: Added, bytes: usize) -> Counted
+    requires { ⌜ Few a ⌝ }
+    ensures { λ r. ⌜ r ≡ answerTo a (bytes % 8) ⌝ }
+{
+    match a {
+        Added::Next(u) => Counted::Next(with_frames(u, (bytes % 8) as u64)),
+        Added::Unequal => Counted::TooLong,
+        Added::OutOfRange => Counted::OutOfRange,
+        Added::Full => Counted::Full,
+    }
+}
+
 // The verdicts and pad flags of the whole frames of a piece; answers how many there are.
 fn see(bytes: &[u8], verdicts: &mut [u8; 8192], pads: &mut [u8; 8192]) -> usize
     requires { ⌜ length (now bytes) ≤ mostBytes ⌝ }
@@ -69,10 +83,5 @@ pub fn count(t: Tally, bytes: &[u8]) -> Counted
     let mut verdicts = [0u8; 8192];
     let mut pads = [0u8; 8192];
     let n = see(bytes, &mut verdicts, &mut pads);
-    match t.add_list(&verdicts[..n], &pads[..n]) {
-        Added::Next(u) => Counted::Next(with_frames(u, (bytes.len() % 8) as u64)),
-        Added::Unequal => Counted::TooLong,
-        Added::OutOfRange => Counted::OutOfRange,
-        Added::Full => Counted::Full,
-    }
+    answered(t.add_list(&verdicts[..n], &pads[..n]), bytes.len())
 }

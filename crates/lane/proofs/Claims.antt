@@ -1,20 +1,27 @@
--- The count leaves one answer, and counting in pieces is counting all at once.
+-- The count leaves one answer, counting in pieces is counting all at once, and each whole frame is counted once.
 -- ┌───────────────┬────────────────────────────────────────────────────────────────┐
 -- │ one-count     │ the statements of specs/Claims.antt by these names             │
 -- │ in-pieces     │                                                                │
+-- │ whole-frames  │                                                                │
 -- └───────────────┴────────────────────────────────────────────────────────────────┘
 use mathlib.Core.Path.{_≡_, refl, sym, ap, ap₂, _∙_, subst}
+use mathlib.Core.Bool.{true}
 use mathlib.Core.List.{List, _++_, append-nil}
 use mathlib.Core.Logic.{inl, inr}
-use Prim.Native.Nat.{ℕ, _+_, _%_}
+use Prim.Native.Nat.{ℕ, _+_, _/_, _%_}
 use native.Mathlib.Omega.{arith}
 use lib.ListN.{length, length-append}
-use Rattle.tally.specs.Counts.{after}
+use Rattle.octets.proofs.Joined.{numbers-len}
+use Rattle.reader.specs.Answers.{word, refused}
+use Rattle.reader.specs.Lists.{VerdictOf}
+use Rattle.tally.specs.Ranges.{isVerdict, every}
+use Rattle.tally.specs.Counts.{fresh, after}
 use Rattle.tally.specs.Adds.{refusal}
 use Rattle.tally.specs.declared.Tally.{Tally}
+use Rattle.tally.proofs.Verdicts.{is-accepted, every-by}
 use Rattle.tally.proofs.Counting as tally
 use Rattle.lane.specs.Counts.{Seen, numberOf, totalsOf, Counts}
-use Rattle.lane.specs.Claims.{OneCount, Pieces, last, more, joining, InPieces}
+use Rattle.lane.specs.Claims.{OneCount, Pieces, last, more, joining, InPieces, WholeFrames}
 use Rattle.lane.specs.declared.Totals.{Totals}
 use Rattle.lane.specs.declared.Counted.{Counted}
 use Rattle.lane.specs.declared.Counted.the-variants.{Next, TooLong, OutOfRange, Full}
@@ -94,3 +101,15 @@ in-pieces bss u p =
       seen = o .seen;
       counted = o .counted ∙ ap (λ (x : Tally). totalsOf x (length (joining bss) % 8)) (tally.from-fresh (o .vs) (o .ps));
     }
+
+is-verdict : (f x : ℕ) → VerdictOf f x → isVerdict x ≡ true
+is-verdict f x (word d ps pad, r, e) = simp (e, is-accepted (length ps) (r .few))
+is-verdict f x (refused n, inl (h, r), e) = simp (e, h)
+is-verdict f x (refused n, inr (h, r), e) = simp (e, h)
+
+pub whole-frames : WholeFrames
+whole-frames bs u t =
+    let known : every isVerdict (t .vs) ≡ true = every-by isVerdict (t .vs) (λ i h. is-verdict _ _ (t .seen .verdicts i (omega arith))) in
+    let sum = tally.counts-each fresh (t .vs) (t .ps) known in
+    let many = numbers-len (length bs / 8) bs 0 in
+    let frames = ap (λ (x : Totals). x .frames) (t .counted) in (omega arith, ap (λ (x : Totals). x .left) (t .counted))

@@ -1,9 +1,9 @@
 -- The count leaves one answer, counting in pieces is counting all at once, and each whole frame is counted once.
--- ┌───────────────┬────────────────────────────────────────────────────────────────┐
--- │ one-count     │ the statements of specs/Claims.antt by these names             │
--- │ in-pieces     │                                                                │
--- │ whole-frames  │                                                                │
--- └───────────────┴────────────────────────────────────────────────────────────────┘
+-- ┌─────────────────┬──────────────────────────────────────────────────────────────┐
+-- │ one-count       │ the statements of specs/Claims.antt by these names           │
+-- │ in-pieces       │                                                              │
+-- │ each-frame-once │                                                              │
+-- └─────────────────┴──────────────────────────────────────────────────────────────┘
 use mathlib.Core.Path.{_≡_, refl, sym, ap, ap₂, _∙_, subst}
 use mathlib.Core.Bool.{true}
 use mathlib.Core.List.{List, _++_, append-nil}
@@ -21,7 +21,7 @@ use Rattle.tally.specs.declared.Tally.{Tally}
 use Rattle.tally.proofs.Verdicts.{is-accepted, every-by}
 use Rattle.tally.proofs.Counting as tally
 use Rattle.lane.specs.Counts.{Seen, numberOf, totalsOf, Counts}
-use Rattle.lane.specs.Claims.{OneCount, Pieces, last, more, joining, InPieces, WholeFrames}
+use Rattle.lane.specs.Claims.{OneCount, Pieces, last, more, joining, InPieces, EachFrameOnce}
 use Rattle.lane.specs.declared.Totals.{Totals}
 use Rattle.lane.specs.declared.Counted.{Counted}
 use Rattle.lane.specs.declared.Counted.the-variants.{Next, TooLong, OutOfRange, Full}
@@ -107,8 +107,8 @@ is-verdict f x (word d ps pad, r, e) = simp (e, is-accepted (length ps) (r .few)
 is-verdict f x (refused n, inl (h, r), e) = simp (e, h)
 is-verdict f x (refused n, inr (h, r), e) = simp (e, h)
 
-pub whole-frames : WholeFrames
-whole-frames bs u t =
+pub each-frame-once : EachFrameOnce
+each-frame-once bs u t =
     let known : every isVerdict (t .vs) ≡ true = every-by isVerdict (t .vs) (λ i h. is-verdict _ _ (t .seen .verdicts i (omega arith))) in
     let sum = tally.counts-each fresh (t .vs) (t .ps) known in
     let many = numbers-len (length bs / 8) bs 0 in

@@ -9,7 +9,7 @@
 -- │ Total bs u          │ u has the counts over all whole frames of bs, and the    │
 -- │                     │ bytes that are left over                                 │
 -- │ InPieces            │ counting in pieces is counting all at once               │
--- │ WholeFrames         │ totals have each whole frame once, and the rest of bs    │
+-- │ EachFrameOnce       │ totals have each whole frame once, and the rest of bs    │
 -- └─────────────────────┴──────────────────────────────────────────────────────────┘
 use mathlib.Core.Path.{_≡_}
 use mathlib.Core.List.{List, [], _∷_, _++_}
@@ -50,5 +50,5 @@ pub record Total (bs : List ℕ) (u : Totals) : Type 0 where
 abbrev pub InPieces : Type 0
 InPieces = (bss : List (List ℕ)) (u : Totals) → Pieces fresh bss u → Total (joining bss) u
 
-abbrev pub WholeFrames : Type 0
-WholeFrames = (bs : List ℕ) (u : Totals) → Total bs u → (u .frames ≡ length bs / 8) × (u .left ≡ length bs % 8)
+abbrev pub EachFrameOnce : Type 0
+EachFrameOnce = (bs : List ℕ) (u : Totals) → Total bs u → (u .frames ≡ length bs / 8) × (u .left ≡ length bs % 8)

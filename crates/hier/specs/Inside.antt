@@ -6,7 +6,7 @@
 use mathlib.Core.Path.{_≡_}
 use Prim.Native.Nat.{ℕ, _<_}
 use Rattle.block.specs.Found.{near₀, near₁, near₂, near₃}
-use Rattle.hier.specs.declared.Nears.{Nears}
+use Rattle.hier.specs.declared.found.Nears.{Nears}
 
 pub record Small (n : Nears) : Type 0 where
   pub first-lt : n .first < 7

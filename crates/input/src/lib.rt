@@ -11,7 +11,7 @@ pub enum Input {
 }
 
 // What a read comes to: so many bytes are there and more may come, or the buffer is done with.
-pub enum Step {
+enum Step {
     More(usize),
     Over(Input),
 }
@@ -29,7 +29,7 @@ fn came(n: usize, have: usize, size: usize) -> Step
 }
 
 // What a read comes to that answered `got`, which is n bytes.
-pub fn after_read(got: isize, n: usize, have: usize, size: usize) -> Step
+fn after_read(got: isize, n: usize, have: usize, size: usize) -> Step
     ensures { λ r. ⌜ r ≡ stepOf (negative got) n have size ⌝ }
 {
     if got < 0 {

@@ -13,7 +13,8 @@ use mathlib.Core.Bool.{Bool, true, _&&_}
 use mathlib.Core.List.{List, [], _∷_}
 use mathlib.Core.Logic.{_⊎_, inl, inr}
 use Prim.Native.Nat.{ℕ, zero, suc, _+_, _-_, _*_, _/_, _%_, _^_, _<_, _≤_}
-use native.Mathlib.Nat.{div-add-mod', mul-one, zero-add, suc-add, pow-suc, mul-assoc, mul-div-cancel, mul-mod-left, zero-lt-suc, add-zero, lt-of-lt-of-le, not-suc-le-zero, le-of-suc-le-suc, eq-or-lt-of-le}
+use native.Mathlib.Nat.{div-add-mod', mul-one, zero-add, suc-add, add-zero, pow-suc, mul-assoc, mul-div-cancel, mul-mod-left}
+use native.Mathlib.Nat.{zero-lt-suc, lt-of-lt-of-le, not-suc-le-zero, le-of-suc-le-suc, eq-or-lt-of-le}
 use native.Mathlib.Omega.{arith}
 use lib.Dec.{T, eqb, eqb→eq, lit<}
 use lib.ListN.{length, getD, take, drop, length-take, length-drop}

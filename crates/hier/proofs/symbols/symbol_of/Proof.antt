@@ -3,8 +3,8 @@ use mathlib.Core.Path.{sym, subst}
 use Prim.Native.Nat.{ℕ, _<_}
 use borrow.Author.Needs.{needs}
 use Rattle.block.proofs.Parts.{member-lt}
-use Rattle.hier.proofs.symbol_of.Statement.{statement}
-use Rattle.hier.proofs.symbol_of.Tie as tie
+use Rattle.hier.proofs.symbols.symbol_of.Statement.{statement}
+use Rattle.hier.proofs.symbols.symbol_of.Tie as tie
 
 mul-i : tie.Need-mul-i
 mul-i c = search needs

@@ -1,8 +1,8 @@
 -- `kinds`: the constant passes its test.
 use Rattle.block.specs.Inside.{kindOf}
 use Rattle.block.proofs.Tables.{kind?, is-kinds}
-use Rattle.hier.proofs.kinds.Statement.{statement}
-use Rattle.hier.proofs.kinds.Tie as tie
+use Rattle.hier.proofs.symbols.kinds.Statement.{statement}
+use Rattle.hier.proofs.symbols.kinds.Tie as tie
 
 returns : tie.Need-returns
 unfolding kind? kindOf

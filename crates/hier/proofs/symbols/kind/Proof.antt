@@ -3,8 +3,8 @@ use mathlib.Core.Path.{sym, subst}
 use Prim.Native.Nat.{ℕ, _≤_}
 use borrow.Author.Needs.{needs}
 use Rattle.block.proofs.Tables.{kind-le}
-use Rattle.hier.proofs.kind.Statement.{statement}
-use Rattle.hier.proofs.kind.Tie as tie
+use Rattle.hier.proofs.symbols.kind.Statement.{statement}
+use Rattle.hier.proofs.symbols.kind.Tie as tie
 
 kinds-requires : tie.Need-kinds-requires
 kinds-requires c κs = search needs

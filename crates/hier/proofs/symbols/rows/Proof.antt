@@ -2,8 +2,8 @@
 use Rattle.block.specs.Symbols.{gap}
 use Rattle.block.specs.Inside.{nearOf}
 use Rattle.block.proofs.Tables.{row?, is-rows}
-use Rattle.hier.proofs.rows.Statement.{statement}
-use Rattle.hier.proofs.rows.Tie as tie
+use Rattle.hier.proofs.symbols.rows.Statement.{statement}
+use Rattle.hier.proofs.symbols.rows.Tie as tie
 
 returns : tie.Need-returns
 unfolding row? nearOf gap

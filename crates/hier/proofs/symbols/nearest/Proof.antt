@@ -3,8 +3,8 @@ use mathlib.Core.Path.{sym, subst}
 use Prim.Native.Nat.{ℕ, _<_}
 use borrow.Author.Needs.{needs}
 use Rattle.block.proofs.Tables.{near-lt}
-use Rattle.hier.proofs.nearest.Statement.{statement}
-use Rattle.hier.proofs.nearest.Tie as tie
+use Rattle.hier.proofs.symbols.nearest.Statement.{statement}
+use Rattle.hier.proofs.symbols.nearest.Tie as tie
 
 rows-requires : tie.Need-rows-requires
 rows-requires c κs = search needs

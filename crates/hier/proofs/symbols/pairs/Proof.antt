@@ -1,7 +1,7 @@
 -- `pairs`: the constant passes its test.
 use Rattle.block.proofs.Tables.{pair?, is-pairs}
-use Rattle.hier.proofs.pairs.Statement.{statement}
-use Rattle.hier.proofs.pairs.Tie as tie
+use Rattle.hier.proofs.symbols.pairs.Statement.{statement}
+use Rattle.hier.proofs.symbols.pairs.Tie as tie
 
 returns : tie.Need-returns
 unfolding pair?

@@ -4,8 +4,8 @@ use Prim.Native.Nat.{ℕ, _+_, _*_, _/_, _%_}
 use native.Mathlib.Nat.{div-one}
 use borrow.Author.Needs.{needs}
 use Rattle.block.specs.Inside.{nearOf}
-use Rattle.hier.proofs.near_each.Statement.{statement}
-use Rattle.hier.proofs.near_each.Tie as tie
+use Rattle.hier.proofs.found.near_each.Statement.{statement}
+use Rattle.hier.proofs.found.near_each.Tie as tie
 
 nearest-requires : tie.Need-nearest-requires
 nearest-requires c κs = search needs

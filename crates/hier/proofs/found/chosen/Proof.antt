@@ -5,8 +5,8 @@ use native.Mathlib.Nat.{div-one}
 use borrow.Author.Needs.{needs}
 use Rattle.block.specs.Inside.{kindOf, solved}
 use Rattle.block.proofs.Laws.{ap₄}
-use Rattle.hier.proofs.chosen.Statement.{statement}
-use Rattle.hier.proofs.chosen.Tie as tie
+use Rattle.hier.proofs.found.chosen.Statement.{statement}
+use Rattle.hier.proofs.found.chosen.Tie as tie
 
 kind-requires : tie.Need-kind-requires
 kind-requires c κs = search needs

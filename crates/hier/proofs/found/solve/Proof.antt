@@ -3,8 +3,8 @@ use native.Mathlib.Omega.{arith}
 use borrow.Author.Needs.{needs}
 use borrow.Author.Tests.{lt-ltb, le-ltb}
 use Rattle.block.specs.Inside.{solved}
-use Rattle.hier.proofs.solve.Statement.{statement}
-use Rattle.hier.proofs.solve.Tie as tie
+use Rattle.hier.proofs.found.solve.Statement.{statement}
+use Rattle.hier.proofs.found.solve.Tie as tie
 
 mul-result : tie.Need-mul-result
 mul-result c = search needs

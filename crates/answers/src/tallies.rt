@@ -20,8 +20,18 @@ fn tallied(t: Tally) {
     say::three(t.no_word, t.run_broken, t.pad_wrong);
 }
 
+// One verdict and its flag go by the call for one.
+fn added(t: Tally, verdicts: &[u8], pads: &[u8]) -> Added {
+    if verdicts.len() == 1 {
+        if pads.len() == 1 {
+            return t.add(verdicts[0], pads[0]);
+        }
+    }
+    t.add_list(verdicts, pads)
+}
+
 pub(crate) fn add(head: &[u8], verdicts: &[u8], pads: &[u8]) {
-    let r = handed_in(head).add_list(verdicts, pads);
+    let r = added(handed_in(head), verdicts, pads);
     if let Added::Next(t) = r {
         tallied(t);
     } else {

@@ -72,6 +72,7 @@ function reader_of(const,    path, lines, n, i, who, found) {
 
 # One replacement, as rt does it: where it stands, and the text with it in place.
 function replace(path, old, new,    at, before, who) {
+    if (!count) stop("a replacement before the first edit")
     if (!(path in text)) stop(label ": " path " is no file of the crate")
     at = index(text[path], old)
     if (old == "" || !at) stop(label ": its text is not in " path)

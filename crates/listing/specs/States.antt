@@ -1,15 +1,26 @@
 -- What the run of the listing comes to, buffer by buffer.
--- ┌───────────────┬─────────────────────────────────────────────────────────────────┐
--- │ ended last u  │ the totals of the whole input, or so far                        │
--- │ stateOf c     │ what a counted buffer comes to; a refusal of the count ends the │
--- │   last        │ run                                                             │
--- └───────────────┴─────────────────────────────────────────────────────────────────┘
+-- ┌────────────────┬────────────────────────────────────────────────────────────────┐
+-- │ ended last u   │ the totals of the whole input, or so far                       │
+-- │ stateOf c last │ what a counted buffer comes to; a refusal of the count ends    │
+-- │                │ the run                                                        │
+-- │ TurnsTo t bs i │ what the buffer bs comes to that i became of: all of it is     │
+-- │   r            │ counted and more may follow, or its first bytes and they are   │
+-- │                │ the last, or nothing is                                        │
+-- └────────────────┴────────────────────────────────────────────────────────────────┘
+use mathlib.Core.Path.{_≡_}
 use mathlib.Core.Bool.{Bool, true, false}
+use mathlib.Core.List.{List}
+use Prim.Native.Nat.{ℕ}
+use lib.ListN.{take}
+use Rattle.input.specs.declared.Input.{Input}
+use Rattle.input.specs.declared.Input.the-variants.{Full as Filled, Last, Failed}
+use Rattle.tally.specs.declared.Tally.{Tally}
+use Rattle.lane.specs.Counts.{Counts}
 use Rattle.lane.specs.declared.Totals.{Totals}
 use Rattle.lane.specs.declared.Counted.{Counted}
 use Rattle.lane.specs.declared.Counted.the-variants.{Next, TooLong, OutOfRange, Full}
 use Rattle.listing.specs.declared.State.{State}
-use Rattle.listing.specs.declared.State.the-variants.{More, Done, Refused}
+use Rattle.listing.specs.declared.State.the-variants.{More, Done, Unread, Refused}
 
 abbrev pub ended : Bool → Totals → State
 ended true u = Done u
@@ -20,3 +31,8 @@ stateOf (Next u) last = ended last u
 stateOf TooLong last = Refused
 stateOf OutOfRange last = Refused
 stateOf Full last = Refused
+
+abbrev pub TurnsTo : Tally → List ℕ → Input → State → Type 0
+TurnsTo t bs Filled r = (c : Counted) × Counts t bs c × (r ≡ stateOf c false)
+TurnsTo t bs (Last n) r = (c : Counted) × Counts t (take n bs) c × (r ≡ stateOf c true)
+TurnsTo t bs Failed r = r ≡ Unread

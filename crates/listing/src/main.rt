@@ -1,6 +1,7 @@
 // Counts the frames on standard input, eight bytes each, highest first, and prints eight lines.
 ghost use mathlib.Core.Path.{_≡_};
-ghost use Rattle.listing.specs.States.{stateOf};
+ghost use Rattle.input.specs.Steps.{Fits};
+ghost use Rattle.listing.specs.States.{stateOf, TurnsTo};
 use input::Input;
 use lane::Counted;
 use lane::Totals;
@@ -28,14 +29,23 @@ fn counted(c: Counted, last: bool) -> State
     }
 }
 
-// One buffer of input, counted on.
-fn one_turn(t: Tally) -> State {
-    let mut buffer = io::large_buffer();
-    match input::fill(&mut buffer) {
-        Input::Full => counted(lane::count(t, &buffer), false),
+// What a buffer comes to, by what became of it.
+fn turned(t: Tally, buffer: &[u8], i: Input) -> State
+    requires { ⌜ Fits i (now buffer) ⌝ }
+    ensures { λ r. ⌜ TurnsTo t (now (buffer .entry)) i r ⌝ }
+{
+    match i {
+        Input::Full => counted(lane::count(t, buffer), false),
         Input::Last(n) => counted(lane::count(t, &buffer[..n]), true),
         Input::Failed => State::Unread,
     }
+}
+
+// One buffer of input, counted on.
+fn one_turn(t: Tally) -> State {
+    let mut buffer = io::large_buffer();
+    let i = input::fill(&mut buffer);
+    turned(t, &buffer, i)
 }
 
 // The whole input. The tally is full long before the turns are used up.

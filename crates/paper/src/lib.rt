@@ -27,3 +27,9 @@ pub const MOST_BYTES: usize = 65536;
 
 // Frames of a tally, bits of a counter: 2^53 - 1.
 pub const MOST_COUNTED: u64 = 9007199254740991;
+
+// What a call answers that leaves its values in lent lists: done, or the number of the refusal.
+pub enum Listed {
+    Done,
+    Refused(u8),
+}

@@ -1,74 +1,107 @@
--- Laws of a list that is written from the front, for any rule of what may stand where.
+-- Laws of a list that is written from the front, one element for each of an input.
 -- ┌───────────────┬────────────────────────────────────────────────────────────────────┐
--- │ written-none  │ before the first place                                             │
--- │ written-more  │ one place more, stored                                             │
--- │ written-over  │ one place more, which the output does not have                     │
--- │ written-as    │ a rule may be exchanged for one that allows as much                │
--- │ one-written   │ where a rule allows one number for each element, there is one list │
--- │ left-done     │ what an answer leaves                                              │
--- │ left-as-was   │ what a refusal leaves                                              │
+-- │ over-none     │ before the first place                                             │
+-- │ over-length   │ the output keeps its length                                        │
+-- │ over-more     │ one place more, stored; none where the output has no such place    │
+-- │ over-past     │ one place more, which the output does not have                     │
+-- │ over-fits     │ in two parts, where there is room                                  │
+-- │ shown-more    │ one place more of what a list shows of its elements                │
+-- │ shown-past    │ and where the output does not have it                              │
+-- │ each-length   │ as many as the input has                                           │
+-- │ each-more     │ one element more                                                   │
+-- │ each-all      │ after the last                                                     │
+-- │ each-made     │ a function that R allows gives each                                │
+-- │ one-each      │ where R allows one element each, there is one list                 │
 -- │ one-left      │ where an answer leaves one list, a call does                       │
 -- └───────────────┴────────────────────────────────────────────────────────────────────┘
-use mathlib.Core.Path.{_≡_, refl, sym, _∙_, subst}
-use mathlib.Core.List.{List}
-use mathlib.Core.Logic.{_⊎_, inl, inr}
-use Prim.Native.Nat.{ℕ, _+_, _<_, _≤_}
-use native.Mathlib.Decide.{decLt, ℕ-discrete}
-use native.Mathlib.Nat.{eq-or-lt-of-le}
+use mathlib.Core.Path.{_≡_, refl, sym, ap, ap₂, _∙_, subst}
+use mathlib.Core.List.{List, [], _∷_, _++_, map}
+use Prim.Native.Nat.{ℕ, zero, suc, _+_, _<_, _≤_}
+use native.Mathlib.Nat.{not-suc-le-zero, le-of-suc-le-suc, zero-lt-suc}
+use native.Mathlib.Numerals.{add-one}
 use native.Mathlib.Omega.{arith}
-use lib.ListN.{length, getD, set, length-set}
-use lib.Seq.{getD-set-same, getD-set-other, ext-getD}
-use Rattle.laws.specs.Lent.{Written, Left}
+use lib.ListN.{length, getD, take, drop, set, length-map}
+use lib.Seq.{take-all}
+use Rattle.paper.specs.Answer.{Answer, gives, refused}
+use Rattle.laws.specs.Lent.{_over_, Each, none, next, Left}
 
-module _ {R : ℕ → ℕ → Type 0} where
-  pub written-none : (xs out : List ℕ) → Written R xs out out 0
-  written-none xs out = record { size = refl; here = λ i h l. absurd (omega arith); past = λ i h. refl }
+pub over-none : (out : List ℕ) → [] over out ≡ out
+unfolding _over_
+over-none [] = refl
+over-none (o ∷ out) = refl
 
-  pub written-more : {xs out₀ out : List ℕ} {k : ℕ} (x : ℕ) → Written R xs out₀ out k → R (getD xs k 0) x → Written R xs out₀ (set out k x) (k + 1)
-  written-more {xs} {out₀} {out} {k} x t r =
-      record {
-        size = length-set out k x ∙ t .size;
-        here = λ i h l. by i l (eq-or-lt-of-le (le i h));
-        past = λ i h. getD-set-other out k i x 0 (λ e. absurd (omega arith)) ∙ t .past i (omega arith);
-      }
-    where
-      le : (i : ℕ) → i < k + 1 → i ≤ k
-      le i h = omega arith
+pub over-length : (ys out : List ℕ) → length (ys over out) ≡ length out
+unfolding _over_
+over-length ys [] = refl
+over-length [] (o ∷ out) = refl
+over-length (y ∷ ys) (o ∷ out) = ap suc (over-length ys out)
 
-      inside : (i : ℕ) → i < length (set out k x) → i < length out
-      inside i l = subst (λ (n : ℕ). i < n) (length-set out k x) l
+pub over-more : (ys out : List ℕ) (y : ℕ) → set (ys over out) (length ys) y ≡ (ys ++ y ∷ []) over out
+unfolding _over_
+over-more ys [] y = refl
+over-more [] (o ∷ out) y = ap (λ (l : List ℕ). y ∷ l) (sym (over-none out))
+over-more (x ∷ ys) (o ∷ out) y = ap (λ (l : List ℕ). x ∷ l) (over-more ys out y)
 
-      by : (i : ℕ) → i < length (set out k x) → (i ≡ k) ⊎ (i < k) → R (getD xs i 0) (getD (set out k x) i 0)
-      by i l (inl e) =
-          subst (λ (n : ℕ). R (getD xs n 0) (getD (set out k x) n 0)) (sym e)
-          (subst (R (getD xs k 0)) (sym (getD-set-same out k x 0 (inside k (subst (λ (n : ℕ). n < length (set out k x)) e l)))) r)
-      by i l (inr h) =
-          subst (R (getD xs i 0)) (sym (getD-set-other out k i x 0 (λ e. absurd (omega arith)))) (t .here i h (inside i l))
+pub over-past : (ys out : List ℕ) (y : ℕ) → length out ≤ length ys → ys over out ≡ (ys ++ y ∷ []) over out
+unfolding _over_
+over-past ys [] y h = refl
+over-past [] (o ∷ out) y h = absurd (not-suc-le-zero h)
+over-past (x ∷ ys) (o ∷ out) y h = ap (λ (l : List ℕ). x ∷ l) (over-past ys out y (le-of-suc-le-suc h))
 
-  pub written-over : {xs out₀ out : List ℕ} {k : ℕ} → Written R xs out₀ out k → length out ≤ k → Written R xs out₀ out (k + 1)
-  written-over t e = record { size = t .size; here = λ i h l. t .here i (omega arith) l; past = λ i h. t .past i (omega arith) }
+pub over-fits : (ys out : List ℕ) → length ys ≤ length out → ys over out ≡ ys ++ drop (length ys) out
+unfolding _over_
+over-fits [] out h = over-none out
+over-fits (y ∷ ys) [] h = absurd (not-suc-le-zero h)
+over-fits (y ∷ ys) (o ∷ out) h = ap (λ (l : List ℕ). y ∷ l) (over-fits ys out (le-of-suc-le-suc h))
 
-  pub written-as : {S : ℕ → ℕ → Type 0} {xs out₀ out : List ℕ} {k : ℕ} → Written R xs out₀ out k
-      → ((i : ℕ) → i < k → (y : ℕ) → R (getD xs i 0) y → S (getD xs i 0) y) → Written S xs out₀ out k
-  written-as t f = record { size = t .size; here = λ i h l. f i h _ (t .here i h l); past = t .past }
+module _ {A : Type 0} (f : A → ℕ) where
+  shown-on : (xs : List A) (a : A) → map f (xs ++ a ∷ []) ≡ map f xs ++ f a ∷ []
+  shown-on [] a = refl
+  shown-on (b ∷ xs) a = ap (λ (l : List ℕ). f b ∷ l) (shown-on xs a)
 
-  pub one-written : {xs out₀ a b : List ℕ} {k : ℕ} → ((i : ℕ) → i < k → (x y : ℕ) → R (getD xs i 0) x → R (getD xs i 0) y → x ≡ y)
-      → Written R xs out₀ a k → Written R xs out₀ b k → a ≡ b
-  one-written {xs} {out₀} {a} {b} {k} one s t = ext-getD 0 a b (s .size ∙ sym (t .size)) (λ i h. by i h (decLt i k))
-    where
-      by : (i : ℕ) → i < length a → Dec (i < k) → getD a i 0 ≡ getD b i 0
-      by i h (yes l) = one i l _ _ (s .here i l h) (t .here i l (subst (λ (n : ℕ). i < n) (s .size ∙ sym (t .size)) h))
-      by i h (no l) = s .past i (omega arith) ∙ sym (t .past i (omega arith))
+  pub shown-more : (xs : List A) (a : A) (out : List ℕ) (i : ℕ) → length xs ≡ i → set (map f xs over out) i (f a) ≡ map f (xs ++ a ∷ []) over out
+  shown-more xs a out i e =
+      ap (λ (n : ℕ). set (map f xs over out) n (f a)) (sym e ∙ sym (length-map xs f))
+      ∙ over-more (map f xs) out (f a)
+      ∙ ap (λ (l : List ℕ). l over out) (sym (shown-on xs a))
 
-pub one-left : {n : ℕ} {U W : Type 0} {out₀ a b : List ℕ} → (U → W → a ≡ b) → Left n U out₀ a → Left n W out₀ b → a ≡ b
-one-left {n} {U} {W} {out₀} {a} {b} one s t = by (ℕ-discrete n 0)
-  where
-    by : Dec (n ≡ 0) → a ≡ b
-    by (yes z) = one (s .answered z) (t .answered z)
-    by (no z) = s .refused z ∙ sym (t .refused z)
+  pub shown-past : (xs : List A) (a : A) (out : List ℕ) → length out ≤ length xs → map f xs over out ≡ map f (xs ++ a ∷ []) over out
+  shown-past xs a out h =
+      over-past (map f xs) out (f a) (subst (λ (n : ℕ). length out ≤ n) (sym (length-map xs f)) h)
+      ∙ ap (λ (l : List ℕ). l over out) (sym (shown-on xs a))
 
-pub left-done : {n : ℕ} {W : Type 0} {out₀ out : List ℕ} → n ≡ 0 → W → Left n W out₀ out
-left-done e t = record { answered = λ z. t; refused = λ z. absurd (z e) }
+up : (i n : ℕ) → i < n → suc i < suc n
+up i n h = omega arith
 
-pub left-as-was : {n : ℕ} {W : Type 0} {out₀ out : List ℕ} → (n ≡ 0 → ⊥) → out ≡ out₀ → Left n W out₀ out
-left-as-was e t = record { answered = λ z. absurd (e z); refused = λ z. t }
+module _ {A B : Type 0} {R : A → B → Type 0} where
+  pub each-length : {xs : List A} {ys : List B} → Each R xs ys → length ys ≡ length xs
+  each-length none = refl
+  each-length (next r e) = ap suc (each-length e)
+
+  on : (xs : List A) (ys : List B) (i : ℕ) (d : A) (y : B)
+      → Each R (take i xs) ys → i < length xs → R (getD xs i d) y → Each R (take (suc i) xs) (ys ++ y ∷ [])
+  on [] ys i d y e h r = absurd (not-suc-le-zero h)
+  on (x ∷ xs) ys zero d y none h r = next r none
+  on (x ∷ xs) ys (suc i) d y (next q e) h r = next q (on xs _ i d y e (le-of-suc-le-suc h) r)
+
+  pub each-more : (xs : List A) (i : ℕ) (d : A) {ys : List B} {y : B}
+      → Each R (take i xs) ys → i < length xs → R (getD xs i d) y → Each R (take (i + 1) xs) (ys ++ y ∷ [])
+  each-more xs i d {ys} {y} e h r =
+      subst (λ (n : ℕ). Each R (take n xs) (ys ++ y ∷ [])) (sym (add-one i)) (on xs ys i d y e h r)
+
+  pub each-all : (xs : List A) (i : ℕ) {ys : List B} → Each R (take i xs) ys → length xs ≤ i → Each R xs ys
+  each-all xs i {ys} e h = subst (λ (l : List A). Each R l ys) (take-all i xs h) e
+
+  pub each-made : (f : A → B) (xs : List A) (d : A) → ((i : ℕ) → i < length xs → R (getD xs i d) (f (getD xs i d))) → Each R xs (map f xs)
+  each-made f [] d h = none
+  each-made f (x ∷ xs) d h = next (h 0 (zero-lt-suc (length xs))) (each-made f xs d (λ i l. h (suc i) (up i _ l)))
+
+  pub one-each : {xs : List A} {ys zs : List B} (d : A)
+      → ((i : ℕ) → i < length xs → (y z : B) → R (getD xs i d) y → R (getD xs i d) z → y ≡ z) → Each R xs ys → Each R xs zs → ys ≡ zs
+  one-each d one none none = refl
+  one-each d one (next r e) (next s f) =
+      ap₂ (λ (y : B) (l : List B). y ∷ l) (one 0 (zero-lt-suc _) _ _ r s) (one-each d (λ i l. one (suc i) (up i _ l)) e f)
+
+pub one-left : {A U W : Type 0} (a : Answer A) (out₀ : List ℕ) {p q : List ℕ} → (U → W → p ≡ q) → Left a U out₀ p → Left a W out₀ q → p ≡ q
+one-left (gives a) out₀ one s t = one s t
+one-left (refused n) out₀ one s t = s ∙ sym t

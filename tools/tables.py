@@ -19,22 +19,35 @@ def remainder(v):
     return r
 
 
+def position(w, i):
+    return (w >> (62 - i)) % 2
+
+
+def run_sums(w):
+    """The sums of the run bits 16, 33 and 50 with the positions just before, as a number of three bits."""
+    return sum((position(w, i) ^ position(w, i - 1)) << k for k, i in enumerate((50, 33, 16)))
+
+
+def sums(w):
+    return run_sums(w) * 4096 + remainder(w)
+
+
 def bytes_():
-    """Entry 256 k + b: the remainder of the byte b at the coefficients x^(8 k) to x^(8 k + 7), of which 63 count."""
-    return [remainder(b << (8 * k)) for k in range(8) for b in range(256)]
+    """Entry 256 k + b: the sums of the frame whose byte k, counted from the lowest, is b."""
+    return [sums((b << (8 * k)) >> 1) for k in range(8) for b in range(256)]
 
 
 def corrections():
-    """Entry r: 64 a + b for the places a < b whose flips leave the remainder r. Place 63 is outside the word: 64 a + 63 is the one
-    place a, and 4095 is no flip. 0 where no places leave r."""
+    """Entry r: 64 a + b for the places a < b whose flips leave the remainder r, and above these twelve bits the run sums of the flips.
+    Place 63 is outside the word: 64 a + 63 is the one place a, and 4095 is no flip. 0 where no places leave r."""
     table = [0] * 4096
-    spots = [remainder(1 << (62 - i)) for i in range(63)] + [0]
+    spots = [1 << (62 - i) for i in range(63)] + [0]
     for a in range(64):
         for b in range(a, 64):
             if a < b or a == 63:
-                r = spots[a] ^ spots[b]
-                assert table[r] == 0
-                table[r] = a * 64 + b
+                w = spots[a] ^ spots[b]
+                assert table[remainder(w)] == 0
+                table[remainder(w)] = run_sums(w) * 4096 + a * 64 + b
     return table
 
 
@@ -45,8 +58,8 @@ def constant(name, doc, entries):
 
 
 if sys.argv[1:] == ["bytes"]:
-    print(constant("BYTES", "The remainder of each byte at each of the eight places of a word.", bytes_()))
+    print(constant("BYTES", "The remainder and the run sums of each byte at each of the eight places of a frame.", bytes_()))
 elif sys.argv[1:] == ["corrections"]:
-    print(constant("CORRECTIONS", "The places to flip for each remainder.", corrections()))
+    print(constant("CORRECTIONS", "The places to flip for each remainder, and the run sums of the flips.", corrections()))
 else:
     sys.exit(__doc__)

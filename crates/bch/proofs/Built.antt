@@ -1,6 +1,6 @@
 -- A table of corrections by construction, so that what is shown of the code rests on no list of numbers.
 -- ┌───────────────┬────────────────────────────────────────────────────────────────┐
--- │ table         │ each valid number stands at the remainder of its pattern       │
+-- │ table         │ each valid number stands at the remainder of its mask       │
 -- │ table-right   │ it has the right entry for each remainder                      │
 -- └───────────────┴────────────────────────────────────────────────────────────────┘
 use mathlib.Core.Path.{refl}

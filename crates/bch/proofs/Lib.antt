@@ -4,3 +4,4 @@ pub mod Built
 pub mod Ones
 pub mod Shown
 pub mod Nearest
+pub mod FiveApart

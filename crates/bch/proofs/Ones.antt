@@ -6,7 +6,10 @@
 -- │ rebuild       │ a word is the sum of its ones                                  │
 -- │ Rising lo l   │ l rises, from lo on, and stays below 63                        │
 -- │ ups-rising    │ so do the ones of a word                                       │
--- │ pattern-of    │ at most two rising positions are the pattern of a valid number │
+-- │ rising-take,  │ and both parts of what rises                                   │
+-- │ rising-drop   │                                                                │
+-- │ sum-split     │ whose words add up                                             │
+-- │ mask-of       │ at most two rising positions are the mask of a valid number │
 -- └───────────────┴────────────────────────────────────────────────────────────────┘
 use mathlib.Core.Path.{_≡_, refl, sym, ap, ap₂, _∙_}
 use mathlib.Core.Bool.{Bool, true, false, not}
@@ -16,14 +19,14 @@ use native.Mathlib.Nat.{mod-one, mod-lt, not-suc-le-zero, le-of-suc-le-suc, zero
 use native.Mathlib.Numerals.{one-add}
 use native.Mathlib.Omega.{arith}
 use lib.Arith.{digits-div, digits-mod}
-use lib.Bits.{bitXor, differ, xor-shr, xor-shifted, xor-zero-r}
+use lib.Bits.{bitXor, differ, xor-shr, xor-shifted, xor-zero-l, xor-zero-r}
 use lib.Dec.{T, eqb, ltb, lt→ltb, lit<}
-use lib.ListN.{length}
+use lib.ListN.{length, take, drop}
 use lib.Pow.{mod-pow-add, pow-pos}
 use Rattle.laws.proofs.Truth.{or-l}
-use Rattle.laws.proofs.Xor.{bit-ind, bit-lt, xor-odd}
+use Rattle.laws.proofs.Xor.{bit-ind, bit-lt, xor-odd, xor-assoc}
 use Rattle.bch.specs.Code.{keep, differing}
-use Rattle.bch.specs.Corrections.{spot, valid, pattern}
+use Rattle.bch.specs.Corrections.{spot, valid, mask}
 use Rattle.bch.proofs.Spots.{spot-at}
 
 unfoldable pub ups : ℕ → ℕ → List ℕ
@@ -77,8 +80,24 @@ ups-rising (suc k) e h = by (eqb (e / 2 ^ k % 2) 1) (ups k e) (ups-rising k e (o
     by true l r = (omega arith, omega arith, lower (suc (63 - suc k)) (63 - k) l (omega arith) r)
     by false l r = lower (63 - suc k) (63 - k) l (omega arith) r
 
-two : (a b : ℕ) → a < b → b < 64 → (n : ℕ) × (n < 4096) × T (valid n) × (pattern n ≡ bitXor (spot a) (spot b))
-unfolding pattern
+pub rising-take : (n lo : ℕ) (l : List ℕ) → Rising lo l → Rising lo (take n l)
+rising-take zero lo l r = tt
+rising-take (suc n) lo [] r = tt
+rising-take (suc n) lo (a ∷ l) r = (r .0, r .1, rising-take n (suc a) l (r .2))
+
+pub rising-drop : (n lo : ℕ) (l : List ℕ) → Rising lo l → Rising lo (drop n l)
+rising-drop zero lo l r = r
+rising-drop (suc n) lo [] r = tt
+rising-drop (suc n) lo (a ∷ l) r = lower lo (suc a) (drop n l) (omega (arith, r .0)) (rising-drop n (suc a) l (r .2))
+
+pub sum-split : (n : ℕ) (l : List ℕ) → bitXor (sumOf (take n l)) (sumOf (drop n l)) ≡ sumOf l
+sum-split zero l = xor-zero-l (sumOf l)
+sum-split (suc n) [] = refl
+sum-split (suc n) (a ∷ l) =
+    xor-assoc (2 ^ (62 - a)) (sumOf (take n l)) (sumOf (drop n l)) ∙ ap (bitXor (2 ^ (62 - a))) (sum-split n l)
+
+two : (a b : ℕ) → a < b → b < 64 → (n : ℕ) × (n < 4096) × T (valid n) × (mask n ≡ bitXor (spot a) (spot b))
+unfolding mask
 two a b h l =
     let q : (a * 64 + b) / 64 ≡ a = digits-div a l in
     let r : (a * 64 + b) % 64 ≡ b = digits-mod a l in (
@@ -88,17 +107,17 @@ two a b h l =
       ap₂ (λ (x y : ℕ). bitXor (spot x) (spot y)) q r,
     )
 
-pub pattern-of : (l : List ℕ) → length l ≤ 2 → Rising 0 l → (n : ℕ) × (n < 4096) × T (valid n) × (pattern n ≡ sumOf l)
-unfolding pattern
-pattern-of [] h r = (4095, lit< tt, tt, refl)
-pattern-of (a ∷ []) h r =
+pub mask-of : (l : List ℕ) → length l ≤ 2 → Rising 0 l → (n : ℕ) × (n < 4096) × T (valid n) × (mask n ≡ sumOf l)
+unfolding mask
+mask-of [] h r = (4095, lit< tt, tt, refl)
+mask-of (a ∷ []) h r =
     let n = two a 63 (r .1) (lit< tt) in
     (n .0, n .1, n .2, n .3 ∙ ap (λ (x : ℕ). bitXor x 0) (spot-at a (r .1)))
-pattern-of (a ∷ b ∷ []) h r =
+mask-of (a ∷ b ∷ []) h r =
     let n = two a b (r .2 .0) (omega (arith, r .2 .1)) in (
       n .0,
       n .1,
       n .2,
       n .3 ∙ ap₂ bitXor (spot-at a (r .1)) (spot-at b (r .2 .1) ∙ sym (xor-zero-r (2 ^ (62 - b)))),
     )
-pattern-of (a ∷ b ∷ c ∷ l) h r = absurd (not-suc-le-zero (le-of-suc-le-suc (le-of-suc-le-suc h)))
+mask-of (a ∷ b ∷ c ∷ l) h r = absurd (not-suc-le-zero (le-of-suc-le-suc (le-of-suc-le-suc h)))

@@ -1,6 +1,6 @@
 -- The rule of the table of corrections, by one computed test.
 -- ┌─────────────────┬──────────────────────────────────────────────────────────────┐
--- │ right? t        │ the test: each entry is sound, and each pattern finds itself │
+-- │ right? t        │ the test: each entry is sound, and each mask finds itself │
 -- │ is-corrections  │ a list of 4,096 that passes it, counted, is `Corrections`    │
 -- │ one-corrections │ there is no second one                                       │
 -- └─────────────────┴──────────────────────────────────────────────────────────────┘
@@ -17,7 +17,7 @@ use lib.Seq.{getD-take, getD-drop, ext-getD}
 use Rattle.laws.proofs.Truth.{and-l, and-r, or-r, implied}
 use Rattle.laws.proofs.Computed.{at, every, upto, below}
 use Rattle.poly.proofs.Division.{rem-lt}
-use Rattle.bch.specs.Corrections.{valid, pattern, Entry, filled, empty, filledEntries, emptyEntries, Corrections}
+use Rattle.bch.specs.Corrections.{valid, mask, Entry, filled, empty, filledEntries, emptyEntries, Corrections}
 use Rattle.bch.specs.Claims.{OneCorrections}
 use Rattle.bch.proofs.Spots.{quick, quick-right}
 
@@ -54,7 +54,7 @@ module _ (xs : List ℕ) (len : length xs ≡ 4096) (test : T (right? xs)) where
   unfolding whole?
   finds n h t =
       let w = and-r (every sound? 0 xs) (upto (whole? (rows 64 xs)) 4096) test in
-      sym (found-at xs (quick n) (subst (λ (x : ℕ). x < 4096) (quick-right n h) (rem-lt 63 (pattern n))))
+      sym (found-at xs (quick n) (subst (λ (x : ℕ). x < 4096) (quick-right n h) (rem-lt 63 (mask n))))
       ∙ eqb→eq (found (rows 64 xs) (quick n)) n
       (implied (valid n) (eqb (found (rows 64 xs) (quick n)) n) (below (whole? (rows 64 xs)) 4096 w n h) t)
 

@@ -1,6 +1,6 @@
--- The positions at which two words differ whose sum is a pattern, by one computed test over the patterns.
+-- The positions at which two words differ whose sum is a mask, by one computed test over the masks.
 -- ┌───────────────┬────────────────────────────────────────────────────────────────┐
--- │ shown         │ words whose sum is a valid pattern differ at its places        │
+-- │ shown         │ words whose sum is a valid mask differ at its places        │
 -- │ places-short  │ which are at most two                                          │
 -- └───────────────┴────────────────────────────────────────────────────────────────┘
 use mathlib.Core.Path.{_≡_, refl, ap, ap₂, _∙_}
@@ -14,7 +14,7 @@ use lib.ListN.{length}
 use Rattle.laws.proofs.Truth.{and-l, and-r, implied}
 use Rattle.laws.proofs.Computed.{upto, below}
 use Rattle.bch.specs.Code.{keep, differences}
-use Rattle.bch.specs.Corrections.{valid, pattern, places}
+use Rattle.bch.specs.Corrections.{valid, mask, places}
 use Rattle.bch.proofs.Ones.{ups, differ-ups}
 
 same? : List ℕ → List ℕ → Bool
@@ -32,18 +32,18 @@ same→eq (a ∷ l) (b ∷ m) t =
     ap₂ (λ (x : ℕ) (n : List ℕ). x ∷ n) (eqb→eq a b (and-l (eqb a b) (same? l m) t)) (same→eq l m (and-r (eqb a b) (same? l m) t))
 
 shown? : ℕ → Bool
-shown? n = not (valid n) || same? (ups 63 (pattern n)) (places n)
+shown? n = not (valid n) || same? (ups 63 (mask n)) (places n)
 
 every-shown : T (upto shown? 4096)
-unfolding shown? same? ups pattern places
+unfolding shown? same? ups mask places
 every-shown = tt
 
-pub shown : (v w n : ℕ) → n < 4096 → T (valid n) → bitXor v w ≡ pattern n → differences v w ≡ places n
+pub shown : (v w n : ℕ) → n < 4096 → T (valid n) → bitXor v w ≡ mask n → differences v w ≡ places n
 unfolding shown?
 shown v w n h t e =
     differ-ups 63 v w
     ∙ ap (ups 63) e
-    ∙ same→eq (ups 63 (pattern n)) (places n) (implied (valid n) (same? (ups 63 (pattern n)) (places n)) (below shown? 4096 every-shown n h) t)
+    ∙ same→eq (ups 63 (mask n)) (places n) (implied (valid n) (same? (ups 63 (mask n)) (places n)) (below shown? 4096 every-shown n h) t)
 
 keep-short : (t : Bool) (i m : ℕ) (l : List ℕ) → length l ≤ m → length (keep t i l) ≤ m + 1
 keep-short true i m l h = omega arith

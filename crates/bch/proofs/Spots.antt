@@ -1,10 +1,10 @@
--- The remainder of a pattern, quickly: the sum of two of 64 remainders.
+-- The remainder of a mask, quickly: the sum of two of 64 remainders.
 -- ┌───────────────┬────────────────────────────────────────────────────────────────┐
 -- │ spots         │ the remainder of each position alone                           │
--- │ quick n       │ the remainder of the pattern n, by `spots`                     │
+-- │ quick n       │ the remainder of the mask n, by `spots`                     │
 -- │ quick-right   │ so it is                                                       │
 -- │ spot-at       │ position i stands for x^(62-i)                                 │
--- │ pattern-lt    │ a pattern is a word                                            │
+-- │ mask-lt    │ a mask is a word                                            │
 -- └───────────────┴────────────────────────────────────────────────────────────────┘
 use mathlib.Core.Path.{_≡_, ap, ap₂, _∙_}
 use mathlib.Core.Bool.{Bool}
@@ -19,7 +19,7 @@ use lib.Pow.{pow-add, shl-shr}
 use Rattle.laws.proofs.Computed.{at}
 use Rattle.poly.specs.Poly.{rem}
 use Rattle.poly.proofs.Division.{rem-xor}
-use Rattle.bch.specs.Corrections.{spot, pattern}
+use Rattle.bch.specs.Corrections.{spot, mask}
 
 abbrev pub spots : List ℕ
 spots =
@@ -38,8 +38,8 @@ spot-rem i h = eqb→eq (rem 63 (spot i)) (getD spots i 0) (at is-spot spots tt 
 abbrev pub quick : ℕ → ℕ
 quick n = bitXor (getD spots (n / 64) 0) (getD spots (n % 64) 0)
 
-pub quick-right : (n : ℕ) → n < 4096 → rem 63 (pattern n) ≡ quick n
-unfolding pattern
+pub quick-right : (n : ℕ) → n < 4096 → rem 63 (mask n) ≡ quick n
+unfolding mask
 quick-right n h =
     rem-xor 63 (spot (n / 64)) (spot (n % 64))
     ∙ ap₂ bitXor (spot-rem (n / 64) (omega arith)) (spot-rem (n % 64) (omega arith))
@@ -52,6 +52,6 @@ spot-at i h =
 spot-lt : (i : ℕ) → spot i < 2 ^ 63
 spot-lt i = lt-of-le-of-lt (div-le-self (2 ^ 62) (2 ^ i)) (lit< tt)
 
-pub pattern-lt : (n : ℕ) → pattern n < 2 ^ 63
-unfolding pattern
-pattern-lt n = xor-lt 63 (spot (n / 64)) (spot (n % 64)) (spot-lt (n / 64)) (spot-lt (n % 64))
+pub mask-lt : (n : ℕ) → mask n < 2 ^ 63
+unfolding mask
+mask-lt n = xor-lt 63 (spot (n / 64)) (spot (n % 64)) (spot-lt (n / 64)) (spot-lt (n % 64))

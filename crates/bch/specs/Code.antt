@@ -2,7 +2,7 @@
 -- ┌───────────────────┬────────────────────────────────────────────────────────────┐
 -- │ freeBits          │ 51: the positions of a word that twelve others check       │
 -- │ CodeWord w        │ w is divisible by g: 51 coefficients times g               │
--- │ bit w i           │ position i of the word w                                   │
+-- │ position w i      │ position i of the word w                                   │
 -- │ differing n k v w │ the positions, among the last k of n, at which v and w     │
 -- │                   │ differ, rising                                             │
 -- │ differences v w   │ the positions at which the words v and w differ, rising    │
@@ -21,8 +21,8 @@ freeBits = 51
 abbrev pub CodeWord : ℕ → Type 0
 CodeWord w = Divisible freeBits w
 
-abbrev pub bit : ℕ → ℕ → ℕ
-bit w i = w / 2 ^ (62 - i) % 2
+abbrev pub position : ℕ → ℕ → ℕ
+position w i = w / 2 ^ (62 - i) % 2
 
 -- i, where it is to be kept, before the rest
 abbrev pub keep : Bool → ℕ → List ℕ → List ℕ

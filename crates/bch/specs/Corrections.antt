@@ -3,7 +3,7 @@
 -- │ spot i        │ the word with a one at position i alone; of zeros for i = 63   │
 -- │ valid e       │ e says two places, the lower first, one place or no place      │
 -- │ places e      │ the places that e says, rising                                 │
--- │ pattern e     │ the word with ones at those places alone                       │
+-- │ mask e        │ the word with ones at those places alone                       │
 -- │ Entry r e     │ e says the places whose flips leave the remainder r; it is 0   │
 -- │               │ where no places leave r                                        │
 -- │ filled t      │ how many entries of t are not 0                                │
@@ -31,13 +31,13 @@ valid e = ltb (e / 64) (e % 64) || eqb e 4095
 unfoldable pub places : ℕ → List ℕ
 places e = keep (ltb (e / 64) 63) (e / 64) (keep (ltb (e % 64) 63) (e % 64) [])
 
-unfoldable pub pattern : ℕ → ℕ
-pattern e = bitXor (spot (e / 64)) (spot (e % 64))
+unfoldable pub mask : ℕ → ℕ
+mask e = bitXor (spot (e / 64)) (spot (e % 64))
 
 pub record Entry (r e : ℕ) : Type 0 where
   pub small : e < 4096
-  pub sound : (e ≡ 0 → ⊥) → T (valid e) × (rem wordBits (pattern e) ≡ r)
-  pub whole : (n : ℕ) → n < 4096 → T (valid n) → rem wordBits (pattern n) ≡ r → n ≡ e
+  pub sound : (e ≡ 0 → ⊥) → T (valid e) × (rem wordBits (mask e) ≡ r)
+  pub whole : (n : ℕ) → n < 4096 → T (valid n) → rem wordBits (mask n) ≡ r → n ≡ e
 
 unfoldable pub filled : List ℕ → ℕ
 filled [] = 0

@@ -16,7 +16,7 @@ use lib.Bits.{bitXor, xor-shifted, xor-self, xor-shr}
 use Rattle.laws.proofs.Xor.{xor-zero}
 use Rattle.poly.specs.Poly.{rem}
 use Rattle.poly.proofs.Division.{rem-xor, rem-small, rem-lt, leaves-nothing, is-divisible}
-use Rattle.bch.specs.Code.{CodeWord, bit}
+use Rattle.bch.specs.Code.{CodeWord, position}
 use Rattle.bch.proofs.Nearest.{code-lt}
 use Rattle.frame.specs.Word.{wordOf, padOf, dataOf, Lawful, FrameOf}
 use Rattle.frame.specs.Claims.{SomeFrame, OneFrame, FrameHigh}
@@ -46,7 +46,7 @@ padded w = w * 2 + (1 - w % 2)
 pub word-padded : (w : ℕ) → wordOf (padded w) ≡ w
 word-padded w = omega arith
 
-pub pad-padded : (w : ℕ) → padOf (padded w) ≡ 1 - bit w 62
+pub pad-padded : (w : ℕ) → padOf (padded w) ≡ 1 - position w 62
 pad-padded w = last w ∙ ap (λ (i : ℕ). 1 - i % 2) (sym (div-one w))
   where
     last : (w : ℕ) → (w * 2 + (1 - w % 2)) % 2 ≡ 1 - w % 2
@@ -59,7 +59,7 @@ framed w l =
     record {
       lawful = subst Lawful (sym e) l;
       carries = ap dataOf e;
-      pad = pad-padded w ∙ ap (λ (i : ℕ). 1 - bit i 62) (sym e);
+      pad = pad-padded w ∙ ap (λ (i : ℕ). 1 - position i 62) (sym e);
     }
 
 run-bit : (x : ℕ) → 1 - x % 2 < 2
@@ -103,13 +103,13 @@ one-lawful w w′ l l′ e =
 pub one-frame : OneFrame
 one-frame d f f′ m m′ =
     let e : wordOf f ≡ wordOf f′ = one-lawful (wordOf f) (wordOf f′) (m .lawful) (m′ .lawful) (m .carries ∙ sym (m′ .carries)) in
-    let p : padOf f ≡ padOf f′ = m .pad ∙ ap (λ (w : ℕ). 1 - bit w 62) e ∙ sym (m′ .pad) in
+    let p : padOf f ≡ padOf f′ = m .pad ∙ ap (λ (w : ℕ). 1 - position w 62) e ∙ sym (m′ .pad) in
     sym (div-add-mod' f 2) ∙ ap₂ (λ (i j : ℕ). i * 2 + j) e p ∙ div-add-mod' f′ 2
 
 pub frame-high : FrameHigh
 frame-high d f m = by (decLe (2 ^ 47) f)
   where
-    low : f < 2 ^ 47 → bit (wordOf f) 16 ≡ 1 - bit (wordOf f) 15 → ⊥
+    low : f < 2 ^ 47 → position (wordOf f) 16 ≡ 1 - position (wordOf f) 15 → ⊥
     low h e =
         let a : f / 2 / 2 ^ 46 ≡ 0 = omega arith in
         let b : f / 2 / 2 ^ 47 ≡ 0 = omega arith in

@@ -14,7 +14,7 @@
 -- └─────────────┴──────────────────────────────────────────────────────────────────┘
 use mathlib.Core.Path.{_≡_}
 use Prim.Native.Nat.{ℕ, _+_, _-_, _*_, _/_, _%_, _^_}
-use Rattle.bch.specs.Code.{CodeWord, bit}
+use Rattle.bch.specs.Code.{CodeWord, position}
 
 abbrev pub dataEnd : ℕ
 dataEnd = 2 ^ 48
@@ -29,9 +29,9 @@ abbrev pub opposite : ℕ → ℕ
 opposite x = 1 - x
 
 pub record RunsRight (w : ℕ) : Type 0 where
-  pub at-16 : bit w 16 ≡ opposite (bit w 15)
-  pub at-33 : bit w 33 ≡ opposite (bit w 32)
-  pub at-50 : bit w 50 ≡ opposite (bit w 49)
+  pub at-16 : position w 16 ≡ opposite (position w 15)
+  pub at-33 : position w 33 ≡ opposite (position w 32)
+  pub at-50 : position w 50 ≡ opposite (position w 49)
 
 abbrev pub sixteen : ℕ → ℕ → ℕ
 sixteen w i = w / 2 ^ (62 - i) % 2 ^ 16
@@ -46,4 +46,4 @@ pub record Lawful (w : ℕ) : Type 0 where
 pub record FrameOf (d f : ℕ) : Type 0 where
   pub lawful : Lawful (wordOf f)
   pub carries : dataOf (wordOf f) ≡ d
-  pub pad : padOf f ≡ opposite (bit (wordOf f) 62)
+  pub pad : padOf f ≡ opposite (position (wordOf f) 62)

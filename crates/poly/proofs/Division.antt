@@ -147,10 +147,10 @@ rem-times (suc j) q =
     (ap (rem (j + 12)) (mul-div-cancel (times j (q / 2) g) (zero-lt-suc 1)) ∙ rem-times j (q / 2))
     (mul-mod-left (times j (q / 2) g) 2)))
 
-pub divide : Divide
+quotient : (j v : ℕ) → v < 2 ^ (j + 12) → (q : ℕ) × (bitXor (times j q g) (rem (j + 12) v) ≡ v)
 unfolding rem times
-divide zero v h = (0, rem-small 12 v h h)
-divide (suc j) v h = more (divide j (v / 2) (half-pow (j + 12) v (subst (λ (x : ℕ). v < 2 ^ x) (suc-add j 12) h)))
+quotient zero v h = (0, rem-small 12 v h h)
+quotient (suc j) v h = more (quotient j (v / 2) (half-pow (j + 12) v (subst (λ (x : ℕ). v < 2 ^ x) (suc-add j 12) h)))
   where
     R : ℕ
     R = rem (j + 12) (v / 2)
@@ -178,6 +178,9 @@ divide (suc j) v h = more (divide j (v / 2) (half-pow (j + 12) v (subst (λ (x :
           ∙ div-add-mod' v 2,
     )
 
+pub divide : Divide
+divide j v h = let q = quotient j v h in (q .0, q .1, rem-lt (j + 12) v)
+
 pub one-remainder : OneRemainder
 one-remainder j q r v h e =
     sym
@@ -189,7 +192,7 @@ pub leaves-nothing : LeavesNothing
 leaves-nothing j v (q, e) = ap (rem (j + 12)) (sym e) ∙ rem-times j q
 
 pub is-divisible : IsDivisible
-is-divisible j v h e = done (divide j v h)
+is-divisible j v h e = done (quotient j v h)
   where
     done : (q : ℕ) × (bitXor (times j q g) (rem (j + 12) v) ≡ v) → Divisible j v
     done (q, p) = (q, sym (xor-zero-r (times j q g)) ∙ ap (bitXor (times j q g)) (sym e) ∙ p)

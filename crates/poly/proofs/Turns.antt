@@ -1,19 +1,16 @@
--- What the loops that divide do in a turn.
+-- What the loop that divides does in a turn.
 -- ┌─────────────┬──────────────────────────────────────────────────────────────────┐
 -- │ taken r     │ g with its leading coefficient at x^62, where r has one there    │
 -- │ taken-lt    │ fits 64 bits                                                     │
 -- │ turn-lt     │ taking it away leaves 62 coefficients                            │
 -- │ turn-rem    │ and the remainder of what is left, k positions on, as it was     │
--- │ byte-turn   │ a byte more of a word, from the lowest on                        │
--- │ bytes-end   │ all eight of them                                                │
 -- └─────────────┴──────────────────────────────────────────────────────────────────┘
 use mathlib.Core.Path.{_≡_, refl, sym, ap, _∙_}
-use Prim.Native.Nat.{ℕ, _+_, _-_, _*_, _/_, _%_, _^_, _<_, _≤_}
-use native.Mathlib.Nat.{mod-lt, mod-eq-of-lt, lt-of-lt-of-le, mul-assoc, mul-div-cancel, zero-lt-suc, div-eq-of-lt}
+use Prim.Native.Nat.{ℕ, _+_, _-_, _*_, _/_, _^_, _<_}
+use native.Mathlib.Nat.{mul-assoc, mul-div-cancel, zero-lt-suc, div-eq-of-lt}
 use native.Mathlib.Omega.{arith}
-use lib.Dec.{lit≤}
-use lib.Pow.{pow-pos, pow-add, mod-pow-add, shl-shr, shr-shr}
-use lib.Bits.{bitXor, xor-shifted, xor-comm, xor-shr, xor-zero-r}
+use lib.Pow.{pow-pos, pow-add, shl-shr, shr-shr}
+use lib.Bits.{bitXor, xor-shr, xor-zero-r}
 use Rattle.laws.proofs.Xor.{bit-ind}
 use Rattle.poly.specs.Poly.{g, rem}
 use Rattle.poly.proofs.Division.{rem-xor, rem-zero, rem-shifted}
@@ -56,16 +53,3 @@ turn-rem k r h l =
     (ap (rem 63) (moved k h) ∙ rem-shifted (50 - k) 63 (omega arith))
     (r / 2 ^ 62) (lead-lt r l))
     ∙ xor-zero-r (rem 63 (r / 2 ^ k))
-
-pub byte-turn : (n k v : ℕ)
-    → bitXor (rem n (v % 2 ^ (k * 8))) (rem n (v / 2 ^ (k * 8) % 256 * 2 ^ (k * 8))) ≡ rem n (v % 2 ^ ((k + 1) * 8))
-byte-turn n k v =
-    sym (rem-xor n (v % 2 ^ (k * 8)) (v / 2 ^ (k * 8) % 256 * 2 ^ (k * 8)))
-    ∙ ap (rem n)
-    (xor-comm (v % 2 ^ (k * 8)) (v / 2 ^ (k * 8) % 256 * 2 ^ (k * 8))
-    ∙ xor-shifted (v / 2 ^ (k * 8) % 256) (k * 8) (v % 2 ^ (k * 8)) (mod-lt v (pow-pos (k * 8)))
-    ∙ sym (mod-pow-add v 8 (k * 8))
-    ∙ ap (λ (i : ℕ). v % 2 ^ i) (let e : 8 + k * 8 ≡ (k + 1) * 8 = omega arith in e))
-
-pub bytes-end : (k v : ℕ) → k ≡ 8 → v < 2 ^ 63 → rem 63 (v % 2 ^ (k * 8)) ≡ rem 63 v
-bytes-end k v e h = ap (λ (n : ℕ). rem 63 (v % 2 ^ (n * 8))) e ∙ ap (rem 63) (mod-eq-of-lt (lt-of-lt-of-le {m = 2 ^ 63} h (lit≤ tt)))

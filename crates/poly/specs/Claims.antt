@@ -1,25 +1,22 @@
 -- That `rem` is division in the textbook's sense, for polynomials of any length.
 -- ┌────────────────┬──────────────────────────────────────────────────────────────────┐
 -- │ Factors        │ g is the product of x^6 + x + 1 and x^6 + x^4 + x^2 + x + 1      │
--- │ Divide         │ v is a multiple of g and the remainder                           │
+-- │ Divide         │ v is a multiple of g and the remainder, of twelve coefficients   │
 -- │ OneRemainder   │ no other polynomial of twelve coefficients is left               │
 -- │ RemXor         │ the remainder of a sum is the sum of the remainders              │
 -- │ LeavesNothing  │ a multiple of g leaves 0                                         │
 -- │ IsDivisible    │ and what leaves 0 is one                                         │
--- │ OneByteTable   │ no second table meets the contract of `byte_remainders`          │
 -- └────────────────┴──────────────────────────────────────────────────────────────────┘
 use mathlib.Core.Path.{_≡_}
-use mathlib.Core.List.{List}
 use Prim.Native.Nat.{ℕ, _+_, _^_, _<_}
 use lib.Bits.{bitXor}
 use Rattle.poly.specs.Poly.{g, times, Divisible, rem}
-use Rattle.poly.specs.Bytes.{ByteTable}
 
 abbrev pub Factors : Type 0
 Factors = times 7 0b1000011 0b1010111 ≡ g
 
 abbrev pub Divide : Type 0
-Divide = (j v : ℕ) → v < 2 ^ (j + 12) → (q : ℕ) × (bitXor (times j q g) (rem (j + 12) v) ≡ v)
+Divide = (j v : ℕ) → v < 2 ^ (j + 12) → (q : ℕ) × (bitXor (times j q g) (rem (j + 12) v) ≡ v) × (rem (j + 12) v < 2 ^ 12)
 
 abbrev pub OneRemainder : Type 0
 OneRemainder = (j q r v : ℕ) → r < 2 ^ 12 → bitXor (times j q g) r ≡ v → r ≡ rem (j + 12) v
@@ -32,6 +29,3 @@ LeavesNothing = (j v : ℕ) → Divisible j v → rem (j + 12) v ≡ 0
 
 abbrev pub IsDivisible : Type 0
 IsDivisible = (j v : ℕ) → v < 2 ^ (j + 12) → rem (j + 12) v ≡ 0 → Divisible j v
-
-abbrev pub OneByteTable : Type 0
-OneByteTable = (t u : List ℕ) → ByteTable t → ByteTable u → t ≡ u

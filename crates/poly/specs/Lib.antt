@@ -1,3 +1,2 @@
 pub mod Poly
-pub mod Bytes
 pub mod Claims

@@ -11,8 +11,8 @@ use lib.ListN.{length, getD}
 use borrow.Author.Tests.{ne-eqb}
 use Rattle.poly.specs.Poly.{rem}
 use Rattle.poly.proofs.Division.{is-divisible}
-use Rattle.bch.specs.Code.{bit, differences, distance}
-use Rattle.bch.specs.Corrections.{pattern, places, Entry}
+use Rattle.bch.specs.Code.{position, differences, distance}
+use Rattle.bch.specs.Corrections.{mask, places, Entry}
 use Rattle.bch.proofs.Shown.{shown, places-short}
 use Rattle.bch.proofs.Nearest as bch
 use Rattle.bch.proofs.Built.{table}
@@ -43,7 +43,7 @@ read-as r e p q =
 
 -- the word of a frame, with the places of an entry flipped
 abbrev pub mended : ℕ → ℕ → ℕ
-mended f e = bitXor (wordOf f) (pattern e)
+mended f e = bitXor (wordOf f) (mask e)
 
 -- what the entry of the remainder says of a frame
 module _ (f e : ℕ) (h : f < 2 ^ 64) (t : Entry (rem 63 (wordOf f)) e) where
@@ -51,7 +51,7 @@ module _ (f e : ℕ) (h : f < 2 ^ 64) (t : Entry (rem 63 (wordOf f)) e) where
   no-word z = inl (refl, bch.no-word (wordOf f) (half f h) e t z)
 
   module _ (n : e ≡ 0 → ⊥) where
-    pub a-word : RunsRight (mended f e) → Reads f (word (dataOf (mended f e)) (places e) (flag (eqb (padOf f) (bit (mended f e) 62))))
+    pub a-word : RunsRight (mended f e) → Reads f (word (dataOf (mended f e)) (places e) (flag (eqb (padOf f) (position (mended f e) 62))))
     a-word r =
         let m = bch.mended (wordOf f) (half f h) e t n in
         record { sent = mended f e; lawful = record { code = m .0; runs = r }; flips = m .1; few = places-short e; carries = refl; padded = refl }
@@ -71,7 +71,7 @@ some-answer f h = by (ℕ-discrete e 0)
     t = bch.entry-of (wordOf f) (half f h)
 
     runs : (n : e ≡ 0 → ⊥) → Dec (RunsRight (mended f e)) → (a : Answer) × Reads f a
-    runs n (yes r) = (word (dataOf (mended f e)) (places e) (flag (eqb (padOf f) (bit (mended f e) 62))), a-word f e h t n r)
+    runs n (yes r) = (word (dataOf (mended f e)) (places e) (flag (eqb (padOf f) (position (mended f e) 62))), a-word f e h t n r)
     runs n (no b) = (refused 14, run-broken f e h t n b)
 
     by : Dec (e ≡ 0) → (a : Answer) × Reads f a
@@ -91,7 +91,7 @@ module _ (f : ℕ) (h : f < 2 ^ 64) where
       λ i. word
       ((r .carries ∙ ap dataOf e ∙ sym (s .carries)) i)
       ((sym (r .flips) ∙ ap (λ (w : ℕ). differences w (wordOf f)) e ∙ s .flips) i)
-      ((r .padded ∙ ap (λ (w : ℕ). flag (eqb (padOf f) (bit w 62))) e ∙ sym (s .padded)) i)
+      ((r .padded ∙ ap (λ (w : ℕ). flag (eqb (padOf f) (position w 62))) e ∙ sym (s .padded)) i)
 
   read-or-nothing : {d pad : ℕ} {ps : List ℕ} → ReadAs f d ps pad → NothingNear f → ⊥
   read-or-nothing r n = beyond _ (near r) (n (r .sent) (r .lawful .code))
@@ -146,7 +146,7 @@ only-read f h (refused n) r w l k =
 
 -- a word differs from itself nowhere
 none-differ : (w : ℕ) → differences w w ≡ []
-unfolding places pattern
+unfolding places mask
 none-differ w = shown w w 4095 (lit< tt) tt (xor-self w)
 
 pub reads-back : ReadsBack
@@ -157,7 +157,7 @@ reads-back d f m =
       flips = none-differ (wordOf f);
       few = lit≤ tt;
       carries = sym (m .carries);
-      padded = sym (ap flag (ne-eqb (padOf f) (bit (wordOf f) 62) (λ e. absurd (apart (bit (wordOf f) 62) (sym e ∙ m .pad)))));
+      padded = sym (ap flag (ne-eqb (padOf f) (position (wordOf f) 62) (λ e. absurd (apart (position (wordOf f) 62) (sym e ∙ m .pad)))));
     }
   where
     apart : (b : ℕ) → b ≡ 1 - b → ⊥

@@ -16,7 +16,7 @@ use Prim.Native.Nat.{ℕ, _<_, _≤_}
 use lib.Dec.{eqb}
 use lib.ListN.{length}
 use Rattle.paper.specs.Numbers.{noWord, runBroken}
-use Rattle.bch.specs.Code.{CodeWord, bit, differences, distance}
+use Rattle.bch.specs.Code.{CodeWord, position, differences, distance}
 use Rattle.frame.specs.Word.{wordOf, padOf, RunsRight, Lawful, dataOf}
 use Rattle.reader.specs.Answers.{Answer, word, refused, flag}
 
@@ -26,7 +26,7 @@ pub record ReadAs (f d : ℕ) (ps : List ℕ) (pad : ℕ) : Type 0 where
   pub flips : differences sent (wordOf f) ≡ ps
   pub few : length ps ≤ 2
   pub carries : d ≡ dataOf sent
-  pub padded : pad ≡ flag (eqb (padOf f) (bit sent 62))
+  pub padded : pad ≡ flag (eqb (padOf f) (position sent 62))
 
 abbrev pub NothingNear : ℕ → Type 0
 NothingNear f = (w : ℕ) → CodeWord w → 2 < distance w (wordOf f)

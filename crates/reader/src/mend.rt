@@ -5,7 +5,7 @@ ghost use lib.Bits.{bitXor};
 ghost use lib.Dec.{T, eqb};
 ghost use Rattle.poly.specs.Poly.{wordBits, rem};
 ghost use Rattle.poly.specs.Bytes.{ByteTable};
-ghost use Rattle.bch.specs.Corrections.{valid, places, pattern, Entry, Corrections};
+ghost use Rattle.bch.specs.Corrections.{valid, places, mask, Entry, Corrections};
 ghost use Rattle.frame.specs.Word.{dataOf};
 ghost use Rattle.reader.specs.Answers.{word, placesOf, flag, answer};
 ghost use Rattle.reader.specs.Reads.{Reads};
@@ -45,7 +45,7 @@ pub(crate) fn remainder_by(b: &[u16; 2048], v: u64) -> u64
 // The word with ones at the places of an entry alone.
 fn mask(e: u64) -> u64
     requires { ⌜ e < 4096 ⌝ }
-    ensures { λ r. ⌜ r ≡ pattern e ⌝ }
+    ensures { λ r. ⌜ r ≡ mask e ⌝ }
 {
     (0x4000_0000_0000_0000u64 >> (e / 64)) ^ (0x4000_0000_0000_0000u64 >> (e % 64))
 }
@@ -69,7 +69,7 @@ fn flips_of(e: u64) -> Flips
 // The word of a frame, with the places of an entry flipped.
 fn mended(e: u64, frame: u64) -> u64
     requires { ⌜ e < 4096 ⌝ }
-    ensures { λ w. ⌜ w ≡ bitXor (frame / 2) (pattern e) ⌝ }
+    ensures { λ w. ⌜ w ≡ bitXor (frame / 2) (mask e) ⌝ }
 {
     (frame / 2) ^ mask(e)
 }

@@ -1,13 +1,15 @@
--- `tables::corrections` meets its contract: the constant passes the one test.
+-- `tables::corrections` meets its contract: the constant passes the tests.
 use mathlib.Core.Path.{refl}
-use Rattle.bch.specs.Corrections.{filled, empty}
+use Rattle.bch.specs.Corrections.{mask, filled, empty}
 use Rattle.bch.proofs.Rule.{sound?, whole?, is-corrections}
+use Rattle.tables.specs.Sums.{runSums}
+use Rattle.tables.proofs.Tables.{runs?, is-mends}
 use Rattle.tables.proofs.corrections.Statement.{statement}
 use Rattle.tables.proofs.corrections.Tie as tie
 
 returns : tie.Need-returns
-unfolding sound? whole? filled empty
-returns c = is-corrections _ refl tt refl refl
+unfolding sound? whole? filled empty mask runSums runs?
+returns c = is-mends _ (is-corrections _ refl tt refl refl) tt
 
 pub corrections-spec : {M : Type 1} → statement M
 corrections-spec = tie.close (tie.spec returns)

@@ -1,7 +1,7 @@
 -- `reader::mend::mask` meets its contract.
 use mathlib.Core.Path.{refl}
 use borrow.Author.Needs.{needs}
-use Rattle.bch.specs.Corrections.{pattern}
+use Rattle.bch.specs.Corrections.{mask}
 use Rattle.reader.proofs.mend.mask.Statement.{statement}
 use Rattle.reader.proofs.mend.mask.Tie as tie
 
@@ -12,7 +12,7 @@ shr-result-2 : tie.Need-shr-result-2
 shr-result-2 c = search needs
 
 returns : tie.Need-returns
-unfolding pattern
+unfolding mask
 returns c = refl
 
 pub mask-spec : {M : Type 1} → statement M

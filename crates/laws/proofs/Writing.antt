@@ -12,7 +12,9 @@
 -- │ each-all      │ after the last                                                     │
 -- │ each-made     │ a function that R allows gives each                                │
 -- │ one-each      │ where R allows one element each, there is one list                 │
--- │ one-left      │ where an answer leaves one list, a call does                       │
+-- │ Alike, Same   │ outputs lent alike, and left alike                                 │
+-- │ one-call      │ where R allows one element each, a list call has one answer and    │
+-- │               │ leaves one list in each output                                     │
 -- └───────────────┴────────────────────────────────────────────────────────────────────┘
 use mathlib.Core.Path.{_≡_, refl, sym, ap, ap₂, _∙_, subst}
 use mathlib.Core.List.{List, [], _∷_, _++_, map}
@@ -23,7 +25,7 @@ use native.Mathlib.Omega.{arith}
 use lib.ListN.{length, getD, take, drop, set, length-map}
 use lib.Seq.{take-all}
 use Rattle.paper.specs.Answer.{Answer, gives, refused}
-use Rattle.laws.specs.Lent.{_over_, Each, none, next, Left}
+use Rattle.laws.specs.Lent.{_over_, Each, none, next, Output, AllShow, AllAsWere, Leaves, ListCall}
 
 pub over-none : (out : List ℕ) → [] over out ≡ out
 unfolding _over_
@@ -102,6 +104,42 @@ module _ {A B : Type 0} {R : A → B → Type 0} where
   one-each d one (next r e) (next s f) =
       ap₂ (λ (y : B) (l : List B). y ∷ l) (one 0 (zero-lt-suc _) _ _ r s) (one-each d (λ i l. one (suc i) (up i _ l)) e f)
 
-pub one-left : {A U W : Type 0} (a : Answer A) (out₀ : List ℕ) {p q : List ℕ} → (U → W → p ≡ q) → Left a U out₀ p → Left a W out₀ q → p ≡ q
-one-left (gives a) out₀ one s t = one s t
-one-left (refused n) out₀ one s t = s ∙ sym t
+-- outputs lent alike: the same list at the start, shown the same way
+abbrev pub Alike : {B : Type 0} → List (Output B) → List (Output B) → Type 0
+Alike [] [] = Unit {0}
+Alike [] (p ∷ ps) = ⊥
+Alike (o ∷ os) [] = ⊥
+Alike (o ∷ os) (p ∷ ps) = (o .shows ≡ p .shows) × (o .place .was ≡ p .place .was) × Alike os ps
+
+-- outputs left alike
+abbrev pub Same : {B : Type 0} → List (Output B) → List (Output B) → Type 0
+Same [] [] = Unit {0}
+Same [] (p ∷ ps) = ⊥
+Same (o ∷ os) [] = ⊥
+Same (o ∷ os) (p ∷ ps) = (o .place .is ≡ p .place .is) × Same os ps
+
+module _ {B : Type 0} where
+  same-shown : (ys zs : List B) → ys ≡ zs → (os ps : List (Output B)) → Alike os ps → AllShow ys os → AllShow zs ps → Same os ps
+  same-shown ys zs e [] [] l s t = tt
+  same-shown ys zs e [] (p ∷ ps) l s t = l
+  same-shown ys zs e (o ∷ os) [] l s t = l
+  same-shown ys zs e (o ∷ os) (p ∷ ps) (h, w, l) (s, ss) (t, ts) =
+      (s ∙ ap₂ (λ (x y : List ℕ). x over y) (λ i. h i (e i)) w ∙ sym t, same-shown ys zs e os ps l ss ts)
+
+  same-kept : (os ps : List (Output B)) → Alike os ps → AllAsWere os → AllAsWere ps → Same os ps
+  same-kept [] [] l s t = tt
+  same-kept [] (p ∷ ps) l s t = l
+  same-kept (o ∷ os) [] l s t = l
+  same-kept (o ∷ os) (p ∷ ps) (h, w, l) (s, ss) (t, ts) = (s ∙ w ∙ sym t, same-kept os ps l ss ts)
+
+module _ {A B : Type 0} (R : A → B → Type 0) (d : A) (xs : List A)
+    (one : (i : ℕ) → i < length xs → (y z : B) → R (getD xs i d) y → R (getD xs i d) z → y ≡ z) where
+  same-left : (os ps : List (Output B)) → Alike os ps → (a : Answer Unit) → Leaves R xs os a → Leaves R xs ps a → Same os ps
+  same-left os ps l (gives a) s t = same-shown (s .ys) (t .ys) (one-each d one (s .each) (t .each)) os ps l (s .all) (t .all)
+  same-left os ps l (refused n) s t = same-kept os ps l s t
+
+  pub one-call : (n : ℕ) (os ps : List (Output B)) → Alike os ps → (a b : Answer Unit) → ListCall R xs n os a → ListCall R xs n ps b
+      → (a ≡ b) × Same os ps
+  one-call n os ps l a b s t =
+      let e : a ≡ b = s .number ∙ sym (t .number) in
+      (e, same-left os ps l b (subst (Leaves R xs os) e (s .left)) (t .left))

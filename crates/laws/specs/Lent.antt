@@ -1,21 +1,39 @@
--- What a call leaves of an output that it was lent.
--- ┌───────────────────┬──────────────────────────────────────────────────────────────┐
--- │ ys over out       │ out with ys at its front, as far as it goes; past them it is │
--- │                   │ as it was                                                    │
--- │ Each R xs ys      │ ys has one element for each of xs, and R allows it there     │
--- │ short xs out      │ the output is shorter than the input                         │
--- │ Left a W out₀ out │ where the call's answer a is a value, W says what out is;    │
--- │                   │ where it is a refusal, out is as it was                      │
--- └───────────────────┴──────────────────────────────────────────────────────────────┘
+-- What a call leaves of outputs that it was lent.
+-- ┌─────────────────┬────────────────────────────────────────────────────────────────┐
+-- │ Lent            │ an output: as it came, and as the call leaves it               │
+-- │ lent s          │ that of a parameter s                                          │
+-- │ ys over out     │ out with ys at its front, as far as it goes; past them it is   │
+-- │                 │ as it was                                                      │
+-- │ Each R xs ys    │ ys has one element for each of xs, and R allows it there       │
+-- │ Output B        │ an output, and what it shows of a list of B                    │
+-- │ AllShow ys os   │ each output has what it shows of ys at its front               │
+-- │ AllAsWere os    │ each output is as it was                                       │
+-- │ Leaves R xs os a│ what a call over xs leaves that answers a: outputs that show   │
+-- │                 │ one list, each of it allowed by R; where a refuses, all as     │
+-- │                 │ they were                                                      │
+-- │ ListCall        │ what a list call owes: the first refusal or done, and what it  │
+-- │                 │ leaves                                                         │
+-- │ short xs out    │ the output is shorter than the input                           │
+-- └─────────────────┴────────────────────────────────────────────────────────────────┘
 use mathlib.Core.Path.{_≡_}
 use mathlib.Core.Bool.{Bool}
 use mathlib.Core.List.{List, [], _∷_}
 use Prim.Native.Nat.{ℕ}
 use lib.Dec.{ltb}
 use lib.ListN.{length}
-use Rattle.paper.specs.Answer.{Answer, gives, refused}
+use denote.Ref.{RefT, now}
+use denote.Triple.Both.{Both}
+use Rattle.paper.specs.Answer.{Answer, gives, refused, owed}
 
 infixr 60 _over_
+
+pub record Lent : Type 0 where
+  pub was : List ℕ
+  pub is : List ℕ
+
+abbrev pub lent : Both (RefT (List ℕ)) (RefT (List ℕ)) → Lent
+lent s = record { was = now (s .entry); is = now (s .exit) }
+
 unfoldable pub _over_ : List ℕ → List ℕ → List ℕ
 ys over [] = []
 [] over (o ∷ out) = o ∷ out
@@ -25,9 +43,30 @@ pub data Each {A B : Type 0} (R : A → B → Type 0) : List A → List B → Ty
   none : Each R [] []
   next : {x : A} {y : B} {xs : List A} {ys : List B} → R x y → Each R xs ys → Each R (x ∷ xs) (y ∷ ys)
 
+pub record Output (B : Type 0) : Type 0 where
+  pub shows : List B → List ℕ
+  pub place : Lent
+
+abbrev pub AllShow : {B : Type 0} → List B → List (Output B) → Type 0
+AllShow ys [] = Unit
+AllShow ys (o ∷ os) = (o .place .is ≡ o .shows ys over o .place .was) × AllShow ys os
+
+abbrev pub AllAsWere : {B : Type 0} → List (Output B) → Type 0
+AllAsWere [] = Unit
+AllAsWere (o ∷ os) = (o .place .is ≡ o .place .was) × AllAsWere os
+
+pub record Written {A B : Type 0} (R : A → B → Type 0) (xs : List A) (os : List (Output B)) : Type 0 where
+  pub ys : List B
+  pub each : Each R xs ys
+  pub all : AllShow ys os
+
+abbrev pub Leaves : {A B : Type 0} → (A → B → Type 0) → List A → List (Output B) → Answer Unit → Type 0
+Leaves R xs os (gives a) = Written R xs os
+Leaves R xs os (refused n) = AllAsWere os
+
+pub record ListCall {A B : Type 0} (R : A → B → Type 0) (xs : List A) (n : ℕ) (os : List (Output B)) (a : Answer Unit) : Type 0 where
+  pub number : a ≡ owed n tt
+  pub left : Leaves R xs os a
+
 abbrev pub short : List ℕ → List ℕ → Bool
 short xs out = ltb (length out) (length xs)
-
-abbrev pub Left : {A : Type 0} → Answer A → Type 0 → List ℕ → List ℕ → Type 0
-Left (gives a) W out₀ out = W
-Left (refused n) W out₀ out = out ≡ out₀

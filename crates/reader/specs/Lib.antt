@@ -1,6 +1,6 @@
 pub mod Answers
 pub mod Reads
+pub mod ByTables
 pub mod Lists
-pub mod Bytes
-pub mod Demands
+pub mod Claims
 pub mod Parts

@@ -1,45 +1,49 @@
--- What the list readers owe: 12, and every place of each lent output.
--- ┌───────────────────┬────────────────────────────────────────────────────────────┐
--- │ readListAnswer    │ 12 for a short output, else 0                              │
--- │ readPadsAnswer    │ the same of three outputs                                  │
--- │ DataOf f x        │ x is the data that a list shows for the frame f            │
--- │ VerdictOf f x     │ x is its verdict byte                                      │
--- │ PadFlagOf f x     │ x is its pad flag                                          │
--- │ ReadsList         │ the list reader: its number, the data and verdicts it      │
--- │                   │ leaves                                                     │
--- │ ReadsPads         │ the list reader that also leaves pad flags                 │
--- └───────────────────┴────────────────────────────────────────────────────────────┘
-use mathlib.Core.Path.{_≡_}
+-- What the list readers owe. There is a list of answers, one for each frame, each owed by `Reads`; every output shows something of it.
+-- ┌────────────────┬─────────────────────────────────────────────────────────────────┐
+-- │ shown g o      │ the output o shows what g takes from each answer                │
+-- │ shownBytes g o │ the same, eight bytes a number                                  │
+-- │ listRefusal    │ 12 for a short output of `read_list`, else 0                    │
+-- │ padsRefusal    │ of `read_list_pads`                                             │
+-- │ bytesRefusal   │ of `read_bytes`: 12 also for a ragged length                    │
+-- │ ReadsList      │ `read_list`: the data and the verdicts                          │
+-- │ ReadsPads      │ `read_list_pads`: also the pad flags                            │
+-- │ ReadsBytes     │ `read_bytes`: the frames and the data are bytes                 │
+-- └────────────────┴─────────────────────────────────────────────────────────────────┘
 use mathlib.Core.Bool.{_||_, cond}
-use mathlib.Core.List.{List}
-use Prim.Native.Nat.{ℕ}
+use mathlib.Core.List.{List, [], _∷_, map}
+use Prim.Native.Nat.{ℕ, _/_}
+use lib.Dec.{ltb}
+use lib.ListN.{length}
 use Rattle.paper.specs.Numbers.{unfit}
-use Rattle.laws.specs.Lent.{short, Leaves}
-use Rattle.reader.specs.Answers.{Answer, verdict, dataIn, padIn}
+use Rattle.paper.specs.Answer.{Answer}
+use Rattle.laws.specs.Lent.{Lent, Output, ListCall, short}
+use Rattle.octets.specs.Octets.{numbersOf, bytesOf}
+use Rattle.octets.specs.Lent.{ragged}
+use Rattle.reader.specs.Answers.{Found, verdict, dataIn, padIn}
 use Rattle.reader.specs.Reads.{Reads}
 
-abbrev pub readListAnswer : List ℕ → List ℕ → List ℕ → ℕ
-readListAnswer fs ds vs = cond (short fs ds || short fs vs) unfit 0
+abbrev pub shown : (Answer Found → ℕ) → Lent → Output (Answer Found)
+shown g o = record { shows = map g; place = o }
 
-abbrev pub readPadsAnswer : List ℕ → List ℕ → List ℕ → List ℕ → ℕ
-readPadsAnswer fs ds vs ps = cond (short fs ds || (short fs vs || short fs ps)) unfit 0
+abbrev pub shownBytes : (Answer Found → ℕ) → Lent → Output (Answer Found)
+shownBytes g o = record { shows = λ xs. bytesOf (map g xs); place = o }
 
-abbrev pub DataOf : ℕ → ℕ → Type 0
-DataOf f x = (a : Answer) × Reads f a × (x ≡ dataIn a)
+abbrev pub listRefusal : List ℕ → List ℕ → List ℕ → ℕ
+listRefusal fs ds vs = cond (short fs ds || short fs vs) unfit 0
 
-abbrev pub VerdictOf : ℕ → ℕ → Type 0
-VerdictOf f x = (a : Answer) × Reads f a × (x ≡ verdict a)
+abbrev pub padsRefusal : List ℕ → List ℕ → List ℕ → List ℕ → ℕ
+padsRefusal fs ds vs ps = cond (short fs ds || (short fs vs || short fs ps)) unfit 0
 
-abbrev pub PadFlagOf : ℕ → ℕ → Type 0
-PadFlagOf f x = (a : Answer) × Reads f a × (x ≡ padIn a)
+abbrev pub bytesRefusal : List ℕ → List ℕ → List ℕ → ℕ
+bytesRefusal fs ds vs = cond (ragged fs || (ragged ds || (short fs ds || ltb (length vs) (length fs / 8)))) unfit 0
 
-pub record ReadsList (fs ds₀ vs₀ : List ℕ) (n : ℕ) (ds vs : List ℕ) : Type 0 where
-  pub number : n ≡ readListAnswer fs ds₀ vs₀
-  pub «data» : Leaves n DataOf fs ds₀ ds
-  pub verdicts : Leaves n VerdictOf fs vs₀ vs
+abbrev pub ReadsList : List ℕ → Lent → Lent → Answer Unit → Type 0
+ReadsList fs d v a = ListCall Reads fs (listRefusal fs (d .was) (v .was)) (shown dataIn d ∷ shown verdict v ∷ []) a
 
-pub record ReadsPads (fs ds₀ vs₀ ps₀ : List ℕ) (n : ℕ) (ds vs ps : List ℕ) : Type 0 where
-  pub number : n ≡ readPadsAnswer fs ds₀ vs₀ ps₀
-  pub «data» : Leaves n DataOf fs ds₀ ds
-  pub verdicts : Leaves n VerdictOf fs vs₀ vs
-  pub pads : Leaves n PadFlagOf fs ps₀ ps
+abbrev pub ReadsPads : List ℕ → Lent → Lent → Lent → Answer Unit → Type 0
+ReadsPads fs d v p a =
+    ListCall Reads fs (padsRefusal fs (d .was) (v .was) (p .was)) (shown dataIn d ∷ shown verdict v ∷ shown padIn p ∷ []) a
+
+abbrev pub ReadsBytes : List ℕ → Lent → Lent → Answer Unit → Type 0
+ReadsBytes fs d v a =
+    ListCall Reads (numbersOf fs) (bytesRefusal fs (d .was) (v .was)) (shownBytes dataIn d ∷ shown verdict v ∷ []) a

@@ -1,0 +1,56 @@
+-- What reading by lent tables comes to, whatever they hold: mend first, over all code words, then the run bits and the data.
+-- ┌─────────────────┬──────────────────────────────────────────────────────────────┐
+-- │ byteOf f k      │ byte k of a frame, counted from the lowest                   │
+-- │ sumsBy b n f    │ the sum of the entries of b for the n lowest bytes of f      │
+-- │ Mended          │ a word, the places flipped to reach it, and its run sums     │
+-- │ mendBy c x f    │ the word of f, whose sums are x, mended by the entry of c    │
+-- │                 │ for its remainder; 13 where that has none                    │
+-- │ saidBy f m      │ what a mended word says: 14 where its run sums are not right │
+-- │ readBy c b f    │ both                                                         │
+-- └─────────────────┴──────────────────────────────────────────────────────────────┘
+use mathlib.Core.Bool.{cond}
+use mathlib.Core.List.{List, []}
+use Prim.Native.Nat.{ℕ, zero, suc, _+_, _*_, _/_, _%_, _^_}
+use lib.Bits.{bitXor}
+use lib.Dec.{eqb}
+use lib.ListN.{getD}
+use Rattle.paper.specs.Numbers.{noWord, runBroken}
+use Rattle.paper.specs.Answer.{Answer, gives, refused}
+use Rattle.bch.specs.Code.{position}
+use Rattle.bch.specs.Corrections.{places, mask}
+use Rattle.frame.specs.Word.{wordOf, padOf, dataOf}
+use Rattle.tables.specs.Sums.{allRight}
+use Rattle.tables.specs.Tables.{entryOf}
+use Rattle.reader.specs.Answers.{Found, flag}
+
+abbrev pub byteOf : ℕ → ℕ → ℕ
+byteOf f k = f / 2 ^ (k * 8) % 256
+
+unfoldable pub sumsBy : List ℕ → ℕ → ℕ → ℕ
+sumsBy b zero f = 0
+sumsBy b (suc n) f = bitXor (sumsBy b n f) (getD b (n * 256 + byteOf f n) 0)
+
+pub record Mended : Type 0 where
+  pub sent : ℕ
+  pub places : List ℕ
+  pub runs : ℕ
+
+-- by an entry and the run sums above it
+abbrev pub byEntry : ℕ → ℕ → ℕ → Answer Mended
+byEntry n x f =
+    cond (eqb (entryOf n) 0) (refused noWord)
+    (gives (record { sent = bitXor (wordOf f) (mask (entryOf n)); places = places (entryOf n); runs = bitXor x n / 4096 }))
+
+abbrev pub mendBy : List ℕ → ℕ → ℕ → Answer Mended
+mendBy c x f =
+    cond (eqb (x % 4096) 0) (gives (record { sent = wordOf f; places = []; runs = x / 4096 })) (byEntry (getD c (x % 4096) 0) x f)
+
+abbrev pub saidBy : ℕ → Answer Mended → Answer Found
+saidBy f (gives m) =
+    cond (eqb (m .runs) allRight)
+    (gives (record { «data» = dataOf (m .sent); places = m .places; pad = flag (eqb (padOf f) (position (m .sent) 62)) }))
+    (refused runBroken)
+saidBy f (refused n) = refused n
+
+unfoldable pub readBy : List ℕ → List ℕ → ℕ → Answer Found
+readBy c b f = saidBy f (mendBy c (sumsBy b 8 f) f)

@@ -1,6 +1,8 @@
 -- Laws of numbers that are read from bytes.
 -- ┌───────────────┬────────────────────────────────────────────────────────────────┐
 -- │ joined-eight  │ eight bytes as two fours                                       │
+-- │ joined-first  │ n bytes of the first part of joined bytes                      │
+-- │ joined-second │ n bytes of the second part                                     │
 -- │ numbers-at    │ a number of the list, by its place                             │
 -- │ numbers-len   │ how many they are                                              │
 -- │ numbers-join  │ the numbers of joined bytes, where the first part is whole     │
@@ -17,6 +19,7 @@ use lib.Seq.{getD-append-add}
 use Rattle.laws.specs.Bits.{Octets}
 use Rattle.octets.specs.Octets.{joined, numbers, numbersOf}
 use Rattle.octets.specs.Claims.{OneTaken}
+use Rattle.octets.proofs.Digits.{joined-lt}
 
 pub joined-eight : (bs : List ℕ) (at : ℕ)
     → (((getD bs at 0 * 256 + getD bs (at + 1) 0) * 256 + getD bs (at + 2) 0) * 256 + getD bs (at + 3) 0) * 2 ^ 32
@@ -40,15 +43,13 @@ unfolding numbers
 numbers-len zero bs at = refl
 numbers-len (suc n) bs at = ap suc (numbers-len n bs (at + 8))
 
--- n bytes that lie in the first part of joined bytes
-joined-first : (n : ℕ) (a b : List ℕ) (at : ℕ) → at + n ≤ length a → joined n (a ++ b) at ≡ joined n a at
+pub joined-first : (n : ℕ) (a b : List ℕ) (at : ℕ) → at + n ≤ length a → joined n (a ++ b) at ≡ joined n a at
 unfolding joined
 joined-first zero a b at h = refl
 joined-first (suc n) a b at h =
     ap₂ (λ (x y : ℕ). x * 256 + y) (joined-first n a b at (omega arith)) (List·getD-append a b 0 (at + n) (omega arith))
 
--- n bytes that lie in the second part
-joined-second : (n : ℕ) (a b : List ℕ) (at : ℕ) → joined n (a ++ b) (length a + at) ≡ joined n b at
+pub joined-second : (n : ℕ) (a b : List ℕ) (at : ℕ) → joined n (a ++ b) (length a + at) ≡ joined n b at
 unfolding joined
 joined-second zero a b at = refl
 joined-second (suc n) a b at =
@@ -90,16 +91,10 @@ numbers-join a b h =
     (numbers-first m a b 0 (omega arith))
     (ap (numbers n (a ++ b)) f ∙ numbers-second n a b 0)
 
-joined-lt : (bs : List ℕ) (at : ℕ) → Octets bs → joined 8 bs at < 2 ^ 64
-unfolding joined
-joined-lt bs at h =
-    omega
-    (arith, h (at + 0), h (at + 1), h (at + 2), h (at + 3), h (at + 4), h (at + 5), h (at + 6), h (at + 7))
-
 pub numbers-lt : (bs : List ℕ) → Octets bs → (i : ℕ) → i < length (numbersOf bs) → getD (numbersOf bs) i 0 < 2 ^ 64
 numbers-lt bs h i l =
     let k : i < length bs / 8 = subst (λ (n : ℕ). i < n) (numbers-len (length bs / 8) bs 0) l in
-    subst (λ (x : ℕ). x < 2 ^ 64) (sym (numbers-at (length bs / 8) bs 0 i k)) (joined-lt bs (0 + i * 8) h)
+    subst (λ (x : ℕ). x < 2 ^ 64) (sym (numbers-at (length bs / 8) bs 0 i k)) (joined-lt 8 bs (0 + i * 8) h)
 
 pub one-taken : OneTaken
 one-taken bs o₀ m n o p s t =

@@ -4,20 +4,28 @@
 -- │ part-stored   │ a part of eight that came back as a number's bytes             │
 -- │ length-eight  │ a number has eight bytes                                       │
 -- │ length-bytes  │ a list of numbers has eight bytes each                         │
--- │ bytes-more    │ one number more                                                │
+-- │ bytes-join    │ one number more                                                │
 -- │ stored-more   │ stored behind those that are stored already                    │
--- │ back          │ a number is the one that its bytes make                        │
+-- │ eight-is      │ the eight bytes, written out                                   │
+-- │ bytes-are     │ the bytes of numbers are bytes                                 │
+-- │ numbers-back  │ the numbers of the bytes of 64-bit numbers are those numbers   │
+-- │ highest-first │ the eight bytes of an asymmetric number, in order              │
 -- └───────────────┴────────────────────────────────────────────────────────────────┘
 use mathlib.Core.Path.{_≡_, refl, sym, ap, ap₂, _∙_, subst}
 use mathlib.Core.Bool.{Bool, cond}
 use mathlib.Core.List.{List, [], _∷_, _++_, append-assoc, append-nil}
-use Prim.Native.Nat.{ℕ, suc, _+_, _*_, _/_, _%_, _^_, _<_}
+use Prim.Native.Nat.{ℕ, zero, suc, _+_, _*_, _/_, _%_, _^_, _<_}
+use native.Mathlib.Nat.{div-one, zero-lt-suc}
 use native.Mathlib.Omega.{arith}
 use borrow.Author.Tests.{lt-ltb}
 use lib.Dec.{T, eqb}
-use lib.ListN.{length, take, drop, set, length-append, length-drop}
+use lib.ListN.{length, getD, take, drop, set, length-append, length-drop}
 use lib.Seq.{take-at, drop-at, drop-drop}
-use Rattle.octets.specs.Octets.{joined, eight, bytesOf, stored}
+use Rattle.laws.specs.Bits.{Octets}
+use Rattle.octets.specs.Octets.{joined, numbers, numbersOf, inBytes, eight, bytesOf, stored}
+use Rattle.octets.specs.Claims.{BytesAre, NumbersBack, HighestFirst}
+use Rattle.octets.proofs.Digits.{length-in, in-octets, back}
+use Rattle.octets.proofs.Joined.{numbers-join}
 
 not-eight : {m : ℕ} → m ≡ 8 → T (eqb m 8)
 not-eight e = subst (λ (k : ℕ). T (eqb k 8)) (sym e) tt
@@ -45,17 +53,17 @@ part-stored o ys i k x h e y =
 
 pub length-eight : (x : ℕ) → length (eight x) ≡ 8
 unfolding eight
-length-eight x = refl
+length-eight x = length-in 8 x
 
 pub length-bytes : (xs : List ℕ) → length (bytesOf xs) ≡ length xs * 8
 unfolding bytesOf
 length-bytes [] = refl
 length-bytes (x ∷ xs) = omega (arith, length-append (eight x) (bytesOf xs), length-eight x, length-bytes xs)
 
-pub bytes-more : (xs : List ℕ) (x : ℕ) → bytesOf (xs ++ x ∷ []) ≡ bytesOf xs ++ eight x
+pub bytes-join : (xs : List ℕ) (x : ℕ) → bytesOf (xs ++ x ∷ []) ≡ bytesOf xs ++ eight x
 unfolding bytesOf
-bytes-more [] x = append-nil (eight x)
-bytes-more (y ∷ xs) x = ap (λ (l : List ℕ). eight y ++ l) (bytes-more xs x) ∙ sym (append-assoc (eight y) (bytesOf xs) (eight x))
+bytes-join [] x = append-nil (eight x)
+bytes-join (y ∷ xs) x = ap (λ (l : List ℕ). eight y ++ l) (bytes-join xs x) ∙ sym (append-assoc (eight y) (bytesOf xs) (eight x))
 
 -- behind the numbers that stand at the front already
 pub stored-more : (xs o₀ : List ℕ) (x : ℕ) → length xs < length o₀ / 8
@@ -72,19 +80,50 @@ stored-more xs o₀ x h =
     ∙ drop-drop 8 (k * 8) o₀
     ∙ ap (λ (n : ℕ). drop n o₀) (let e : k * 8 + 8 ≡ (k + 1) * 8 = omega arith in e))
     ∙ sym (append-assoc (bytesOf xs) (eight x) (drop ((k + 1) * 8) o₀))
-    ∙ ap (λ (p : List ℕ). p ++ drop ((k + 1) * 8) o₀) (sym (bytes-more xs x))
+    ∙ ap (λ (p : List ℕ). p ++ drop ((k + 1) * 8) o₀) (sym (bytes-join xs x))
 
-glue : (a b c : ℕ) → a ≡ c → c ≡ b / 256 → a * 256 + b % 256 ≡ b
-glue a b c e f = omega arith
+pub eight-is : (x : ℕ)
+    → x / 2 ^ 56 % 256
+    ∷ x / 2 ^ 48 % 256
+    ∷ x / 2 ^ 40 % 256
+    ∷ x / 2 ^ 32 % 256
+    ∷ x / 2 ^ 24 % 256
+    ∷ x / 2 ^ 16 % 256
+    ∷ x / 2 ^ 8 % 256
+    ∷ x % 256
+    ∷ []
+    ≡ eight x
+unfolding eight inBytes
+eight-is x =
+    ap
+    (λ (y : ℕ).
+    x / 2 ^ 56 % 256 ∷ x / 2 ^ 48 % 256 ∷ x / 2 ^ 40 % 256 ∷ x / 2 ^ 32 % 256 ∷ x / 2 ^ 24 % 256 ∷ x / 2 ^ 16 % 256 ∷ x / 2 ^ 8 % 256 ∷ y % 256 ∷ [])
+    (sym (div-one x))
 
-pub back : (x : ℕ) → x < 2 ^ 64 → joined 8 (eight x) 0 ≡ x
-unfolding joined eight
-back x h =
-    let t : 0 * 256 + x / 2 ^ 56 % 256 ≡ x / 2 ^ 56 = omega arith in
-    let s48 = glue _ (x / 2 ^ 48) (x / 2 ^ 56) t (omega arith) in
-    let s40 = glue _ (x / 2 ^ 40) (x / 2 ^ 48) s48 (omega arith) in
-    let s32 = glue _ (x / 2 ^ 32) (x / 2 ^ 40) s40 (omega arith) in
-    let s24 = glue _ (x / 2 ^ 24) (x / 2 ^ 32) s32 (omega arith) in
-    let s16 = glue _ (x / 2 ^ 16) (x / 2 ^ 24) s24 (omega arith) in
-    let s8 = glue _ (x / 2 ^ 8) (x / 2 ^ 16) s16 (omega arith) in
-    glue _ x (x / 2 ^ 8) s8 (omega arith)
+octets-append : (a b : List ℕ) → Octets a → Octets b → Octets (a ++ b)
+octets-append [] b h k i = k i
+octets-append (x ∷ a) b h k zero = h 0
+octets-append (x ∷ a) b h k (suc i) = octets-append a b (λ j. h (suc j)) k i
+
+pub bytes-are : BytesAre
+unfolding bytesOf eight
+bytes-are [] i = zero-lt-suc 255
+bytes-are (x ∷ xs) i = octets-append (eight x) (bytesOf xs) (in-octets 8 x) (bytes-are xs) i
+
+-- the one number of eight bytes
+one-number : (x : ℕ) → x < 2 ^ 64 → numbersOf (eight x) ≡ x ∷ []
+unfolding numbers eight
+one-number x h =
+    ap (λ (n : ℕ). numbers (n / 8) (eight x) 0) (length-eight x)
+    ∙ ap (λ (y : ℕ). y ∷ []) (back 8 x h)
+
+pub numbers-back : NumbersBack
+unfolding bytesOf numbers
+numbers-back [] h = refl
+numbers-back (x ∷ xs) h =
+    numbers-join (eight x) (bytesOf xs) (ap (λ (n : ℕ). n % 8) (length-eight x))
+    ∙ ap₂ (λ (a b : List ℕ). a ++ b) (one-number x (h 0)) (numbers-back xs (λ i. h (suc i)))
+
+pub highest-first : HighestFirst
+unfolding bytesOf eight inBytes
+highest-first = refl

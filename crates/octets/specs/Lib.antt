@@ -1,3 +1,4 @@
 pub mod Octets
-pub mod Lent
+pub mod Answers
+pub mod Calls
 pub mod Claims

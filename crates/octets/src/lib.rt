@@ -1,8 +1,14 @@
-// Bytes and 64-bit numbers, eight bytes a number, highest first.
+// Bytes and numbers, highest byte first: 64-bit numbers, eight bytes each, and a number of any width at any place.
 ghost use mathlib.Core.Path.{_≡_};
 ghost use Prim.Native.Nat.{min, _+_, _*_, _≤_, _<_, _^_};
 ghost use lib.ListN.{length, getD};
 ghost use Rattle.octets.specs.Octets.{joined, numbersOf, eight, stored, Taken};
+
+mod place;
+
+pub use place::Got;
+pub use place::get;
+pub use place::put;
 
 fn four(a: u8, b: u8, c: u8, d: u8) -> u64
     ensures { λ r. ⌜ (r ≡ ((a * 256 + b) * 256 + c) * 256 + d) × (r < 2 ^ 32) ⌝ }
@@ -49,7 +55,7 @@ pub fn number(bytes: &[u8], i: usize) -> u64
 }
 
 // The eight bytes of x, highest first.
-fn put(out: &mut [u8], x: u64)
+fn put_eight(out: &mut [u8], x: u64)
     requires { ⌜ length (now out) ≡ 8 ⌝ }
     ensures { λ _. ⌜ now (out .exit) ≡ eight x ⌝ }
 {
@@ -69,6 +75,6 @@ pub fn store(out: &mut [u8], i: usize, x: u64)
 {
     if i < out.len() / 8 {
         let a = i * 8;
-        put(&mut out[a..a + 8], x);
+        put_eight(&mut out[a..a + 8], x);
     }
 }

@@ -10,20 +10,20 @@ use Rattle.octets.proofs.store.Tie as tie
 mul-a : tie.Need-mul-a
 mul-a c = search needs
 
-add-put : tie.Need-add-put
-add-put c = search needs
+add-put-eight : tie.Need-add-put-eight
+add-put-eight c = search needs
 
-sub-put : tie.Need-sub-put
-sub-put c = search needs
+sub-put-eight : tie.Need-sub-put-eight
+sub-put-eight c = search needs
 
-part-put-start : tie.Need-part-put-start
-part-put-start c = search needs
+part-put-eight-start : tie.Need-part-put-eight-start
+part-put-eight-start c = search needs
 
-part-put-end : tie.Need-part-put-end
-part-put-end c = search needs
+part-put-eight-end : tie.Need-part-put-eight-end
+part-put-eight-end c = search needs
 
-put-requires : tie.Need-put-requires
-put-requires c κs = search needs
+put-eight-requires : tie.Need-put-eight-requires
+put-eight-requires c κs = search needs
 
 same-length : tie.Need-same-length
 same-length c = search needs
@@ -31,7 +31,7 @@ same-length c = search needs
 returns : tie.Need-returns
 returns c =
     let a = c .before .before .before .before .before .before in
-    part-stored (a .args .out .now) (c .before .before .put .last .0) (a .args .i) (a .args .i * 8 + 8 - a .args .i * 8) (a .args .x) (c .before .before .before .before .if1 .taken) (omega arith) (c .before .before .put .ensures)
+    part-stored (a .args .out .now) (c .before .before .put-eight .last .0) (a .args .i) (a .args .i * 8 + 8 - a .args .i * 8) (a .args .x) (c .before .before .before .before .if1 .taken) (omega arith) (c .before .before .put-eight .ensures)
 
 returns-2 : tie.Need-returns-2
 returns-2 c = simp (le-ltb _ _ (c .if1 .left))
@@ -41,11 +41,11 @@ store-spec =
     tie.close
     (tie.spec
     mul-a
-    add-put
-    sub-put
-    part-put-start
-    part-put-end
-    put-requires
+    add-put-eight
+    sub-put-eight
+    part-put-eight-start
+    part-put-eight-end
+    put-eight-requires
     same-length
     returns
     returns-2)

@@ -1,11 +1,11 @@
--- `octets::put` meets its contract: eight stores.
+-- `octets::put_eight` meets its contract: eight stores.
+use mathlib.Core.Path.{_∙_}
 use native.Mathlib.Omega.{arith}
 use borrow.Author.Needs.{needs}
 use lib.ListN.{length-set}
-use Rattle.octets.specs.Octets.{eight}
-use Rattle.octets.proofs.Stored.{eight-stores}
-use Rattle.octets.proofs.put.Statement.{statement}
-use Rattle.octets.proofs.put.Tie as tie
+use Rattle.octets.proofs.Stored.{eight-stores, eight-is}
+use Rattle.octets.proofs.put_eight.Statement.{statement}
+use Rattle.octets.proofs.put_eight.Tie as tie
 
 cast-out : tie.Need-cast-out
 cast-out c = search needs
@@ -59,11 +59,10 @@ same-length : tie.Need-same-length
 same-length c = search needs
 
 returns : tie.Need-returns
-unfolding eight
-returns c = eight-stores (c .args .out .now) (c .pre) _ _ _ _ _ _ _ _
+returns c = eight-stores (c .args .out .now) (c .pre) _ _ _ _ _ _ _ _ ∙ eight-is (c .args .x)
 
-pub put-spec : {M : Type 1} → statement M
-put-spec =
+pub put-eight-spec : {M : Type 1} → statement M
+put-eight-spec =
     tie.close
     (tie.spec
     cast-out

@@ -15,6 +15,7 @@
 -- │ Alike, Same   │ outputs lent alike, and left alike                                 │
 -- │ one-call      │ where R allows one element each, a list call has one answer and    │
 -- │               │ leaves one list in each output                                     │
+-- │ one-left      │ the same of one output                                             │
 -- └───────────────┴────────────────────────────────────────────────────────────────────┘
 use mathlib.Core.Path.{_≡_, refl, sym, ap, ap₂, _∙_, subst}
 use mathlib.Core.List.{List, [], _∷_, _++_, map}
@@ -25,7 +26,7 @@ use native.Mathlib.Omega.{arith}
 use lib.ListN.{length, getD, take, drop, set, length-map}
 use lib.Seq.{take-all}
 use Rattle.paper.specs.Answer.{Answer, gives, refused}
-use Rattle.laws.specs.Lent.{_over_, Each, none, next, Output, AllShow, AllAsWere, Leaves, ListCall}
+use Rattle.laws.specs.Lent.{_over_, Each, none, next, Output, AllShow, AllAsWere, Leaves, ListCall, Left}
 
 pub over-none : (out : List ℕ) → [] over out ≡ out
 unfolding _over_
@@ -143,3 +144,7 @@ module _ {A B : Type 0} (R : A → B → Type 0) (d : A) (xs : List A)
   one-call n os ps l a b s t =
       let e : a ≡ b = s .number ∙ sym (t .number) in
       (e, same-left os ps l b (subst (Leaves R xs os) e (s .left)) (t .left))
+
+pub one-left : {A U W : Type 0} (a : Answer A) (o₀ : List ℕ) {p q : List ℕ} → (U → W → p ≡ q) → Left a U o₀ p → Left a W o₀ q → p ≡ q
+one-left (gives a) o₀ one s t = one s t
+one-left (refused n) o₀ one s t = s ∙ sym t

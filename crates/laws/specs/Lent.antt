@@ -13,6 +13,8 @@
 -- │                 │ they were                                                      │
 -- │ ListCall        │ what a list call owes: the first refusal or done, and what it  │
 -- │                 │ leaves                                                         │
+-- │ Left a W o₀ o   │ the same of one output o, o₀ as it came: W says what it is     │
+-- │                 │ where a is a value                                             │
 -- │ short xs out    │ the output is shorter than the input                           │
 -- └─────────────────┴────────────────────────────────────────────────────────────────┘
 use mathlib.Core.Path.{_≡_}
@@ -67,6 +69,10 @@ Leaves R xs os (refused n) = AllAsWere os
 pub record ListCall {A B : Type 0} (R : A → B → Type 0) (xs : List A) (n : ℕ) (os : List (Output B)) (a : Answer Unit) : Type 0 where
   pub number : a ≡ owed n tt
   pub left : Leaves R xs os a
+
+abbrev pub Left : {A : Type 0} → Answer A → Type 0 → List ℕ → List ℕ → Type 0
+Left (gives a) W o₀ o = W
+Left (refused n) W o₀ o = o ≡ o₀
 
 abbrev pub short : List ℕ → List ℕ → Bool
 short xs out = ltb (length out) (length xs)

@@ -17,8 +17,8 @@ use lib.ListN.{length}
 use Rattle.paper.specs.Numbers.{unfit}
 use Rattle.paper.specs.Answer.{Answer}
 use Rattle.laws.specs.Lent.{Lent, Output, ListCall, short}
-use Rattle.octets.specs.Octets.{numbersOf, bytesOf}
-use Rattle.octets.specs.Lent.{ragged}
+use Rattle.octets.specs.Octets.{numbersOf, bytesOf, ragged}
+
 use Rattle.reader.specs.Answers.{Found, verdict, dataIn, padIn}
 use Rattle.reader.specs.Reads.{Reads}
 

@@ -1,15 +1,22 @@
 -- Two code words differ nowhere, or in five places or more: with at most four, a word between them would be within two of each.
+-- ┌─────────────────┬──────────────────────────────────────────────────────────────┐
+-- │ triangle        │ from word to word, the way over a third is no shorter        │
+-- │ differences-sym │ two words differ at the same places, either way              │
+-- │ five-apart      │ the claim of specs/Claims.antt by this name                  │
+-- └─────────────────┴──────────────────────────────────────────────────────────────┘
 use mathlib.Core.Path.{_≡_, sym, ap, ap₂, _∙_, subst}
+use mathlib.Core.Bool.{Bool, true, false, not}
 use mathlib.Core.List.{List}
-use Prim.Native.Nat.{ℕ, _<_, _≤_}
-use native.Mathlib.Decide.{decLe}
+use Prim.Native.Nat.{ℕ, zero, suc, _+_, _-_, _/_, _%_, _^_, _<_, _≤_}
+use native.Mathlib.Decide.{decLe, ℕ-discrete}
 use native.Mathlib.Nat.{mod-eq-of-lt}
 use native.Mathlib.Omega.{arith}
 use lib.Bits.{bitXor, xor-lt, xor-comm}
-use lib.Dec.{T}
+use borrow.Author.Tests.{eq-eqb, ne-eqb}
+use lib.Dec.{T, eqb}
 use lib.ListN.{length, take, drop, length-take, length-drop}
 use Rattle.laws.proofs.Xor.{xor-assoc, xor-cancel}
-use Rattle.bch.specs.Code.{CodeWord, differences, distance}
+use Rattle.bch.specs.Code.{CodeWord, keep, differing, differences, distance}
 use Rattle.bch.specs.Corrections.{valid, mask}
 use Rattle.bch.specs.Claims.{FiveApart}
 use Rattle.bch.proofs.Spots.{mask-lt}
@@ -42,6 +49,44 @@ across w w′ a b e =
     ∙ ap (λ (x : ℕ). bitXor x a) (xor-comm w′ w ∙ sym e)
     ∙ xor-comm (bitXor a b) a
     ∙ xor-cancel a b
+
+-- where two bits differ, a third differs from one of them
+way : (a b c : ℕ) (l m n : List ℕ) (i : ℕ) → length l ≤ length m + length n
+    → length (keep (not (eqb a c)) i l) ≤ length (keep (not (eqb a b)) i m) + length (keep (not (eqb b c)) i n)
+way a b c l m n i h = by (ℕ-discrete a b) (ℕ-discrete b c)
+  where
+    kept : (t : Bool) (l : List ℕ) → length (keep t i l) ≤ suc (length l)
+    kept true l = omega arith
+    kept false l = omega arith
+
+    more : (t : Bool) (l : List ℕ) → length l ≤ length (keep t i l)
+    more true l = omega arith
+    more false l = omega arith
+
+    by : Dec (a ≡ b) → Dec (b ≡ c)
+        → length (keep (not (eqb a c)) i l) ≤ length (keep (not (eqb a b)) i m) + length (keep (not (eqb b c)) i n)
+    by (yes e) (yes g) =
+        let z : length (keep (not (eqb a c)) i l) ≡ length l = ap (λ (t : Bool). length (keep (not t) i l)) (eq-eqb a c (e ∙ g)) in
+        omega (arith, more (not (eqb a b)) m, more (not (eqb b c)) n)
+    by (no e) g =
+        let z : length (keep (not (eqb a b)) i m) ≡ suc (length m) = ap (λ (t : Bool). length (keep (not t) i m)) (ne-eqb a b e) in
+        omega (arith, kept (not (eqb a c)) l, more (not (eqb b c)) n)
+    by (yes e) (no g) =
+        let z : length (keep (not (eqb b c)) i n) ≡ suc (length n) = ap (λ (t : Bool). length (keep (not t) i n)) (ne-eqb b c g) in
+        omega (arith, kept (not (eqb a c)) l, more (not (eqb a b)) m)
+
+ways : (k u v w : ℕ) → length (differing 63 k u w) ≤ length (differing 63 k u v) + length (differing 63 k v w)
+unfolding differing
+ways zero u v w = omega arith
+ways (suc k) u v w =
+    way (u / 2 ^ k % 2) (v / 2 ^ k % 2) (w / 2 ^ k % 2) (differing 63 k u w) (differing 63 k u v) (differing 63 k v w) (63 - suc k) (ways k u v w)
+
+-- over a third word it is no shorter
+pub triangle : (u v w : ℕ) → distance u w ≤ distance u v + distance v w
+triangle u v w = ways 63 u v w
+
+pub differences-sym : (v w : ℕ) → differences v w ≡ differences w v
+differences-sym v w = differ-ups 63 v w ∙ ap (ups 63) (xor-comm v w) ∙ sym (differ-ups 63 w v)
 
 pub five-apart : FiveApart
 five-apart w w′ c c′ n = by (decLe (distance w w′) 4)

@@ -7,6 +7,10 @@
 -- │ over-fits     │ in two parts, where there is room                                  │
 -- │ shown-more    │ one place more of what a list shows of its elements                │
 -- │ shown-past    │ and where the output does not have it                              │
+-- │ map-size      │ the first i of an input, each by F, are i                          │
+-- │ mapped-more   │ one place more of what is shown of them                            │
+-- │ mapped-past   │ which the output does not have                                     │
+-- │ mapped-all    │ after the last                                                     │
 -- │ each-length   │ as many as the input has                                           │
 -- │ each-more     │ one element more                                                   │
 -- │ each-all      │ after the last                                                     │
@@ -15,7 +19,9 @@
 -- │ Alike, Same   │ outputs lent alike, and left alike                                 │
 -- │ one-call      │ where R allows one element each, a list call has one answer and    │
 -- │               │ leaves one list in each output                                     │
--- │ one-left      │ the same of one output                                             │
+-- │ call-refused, │ what a list call owes that refuses, and one that is done           │
+-- │ call-done     │                                                                    │
+-- │ one-left      │ where an answer leaves one list, a call with one output does       │
 -- └───────────────┴────────────────────────────────────────────────────────────────────┘
 use mathlib.Core.Path.{_≡_, refl, sym, ap, ap₂, _∙_, subst}
 use mathlib.Core.List.{List, [], _∷_, _++_, map}
@@ -24,9 +30,9 @@ use native.Mathlib.Nat.{not-suc-le-zero, le-of-suc-le-suc, zero-lt-suc}
 use native.Mathlib.Numerals.{add-one}
 use native.Mathlib.Omega.{arith}
 use lib.ListN.{length, getD, take, drop, set, length-map}
-use lib.Seq.{take-all}
-use Rattle.paper.specs.Answer.{Answer, gives, refused}
-use Rattle.laws.specs.Lent.{_over_, Each, none, next, Output, AllShow, AllAsWere, Leaves, ListCall, Left}
+use lib.Seq.{take-all, take-suc, length-take-le}
+use Rattle.paper.specs.Answer.{Answer, gives, refused, owed, done}
+use Rattle.laws.specs.Lent.{_over_, Each, none, next, Output, AllShow, AllAsWere, Written, Leaves, ListCall, Left}
 
 pub over-none : (out : List ℕ) → [] over out ≡ out
 unfolding _over_
@@ -58,7 +64,7 @@ over-fits (y ∷ ys) [] h = absurd (not-suc-le-zero h)
 over-fits (y ∷ ys) (o ∷ out) h = ap (λ (l : List ℕ). y ∷ l) (over-fits ys out (le-of-suc-le-suc h))
 
 module _ {A : Type 0} (f : A → ℕ) where
-  shown-on : (xs : List A) (a : A) → map f (xs ++ a ∷ []) ≡ map f xs ++ f a ∷ []
+  pub shown-on : (xs : List A) (a : A) → map f (xs ++ a ∷ []) ≡ map f xs ++ f a ∷ []
   shown-on [] a = refl
   shown-on (b ∷ xs) a = ap (λ (l : List ℕ). f b ∷ l) (shown-on xs a)
 
@@ -72,6 +78,33 @@ module _ {A : Type 0} (f : A → ℕ) where
   shown-past xs a out h =
       over-past (map f xs) out (f a) (subst (λ (n : ℕ). length out ≤ n) (sym (length-map xs f)) h)
       ∙ ap (λ (l : List ℕ). l over out) (sym (shown-on xs a))
+
+-- what is shown of the first i elements of an input, each by F
+module _ {A B : Type 0} (F : A → B) (xs : List A) (d : A) where
+  pub map-next : (i : ℕ) → i < length xs → map F (take (i + 1) xs) ≡ map F (take i xs) ++ F (getD xs i d) ∷ []
+  map-next i h = ap (λ (n : ℕ). map F (take n xs)) (add-one i) ∙ ap (map F) (take-suc xs i d h) ∙ on-map (take i xs) (getD xs i d)
+    where
+      on-map : (l : List A) (a : A) → map F (l ++ a ∷ []) ≡ map F l ++ F a ∷ []
+      on-map [] a = refl
+      on-map (x ∷ l) a = ap (λ (m : List B). F x ∷ m) (on-map l a)
+
+  pub map-size : (i : ℕ) → i ≤ length xs → length (map F (take i xs)) ≡ i
+  map-size i h = length-map (take i xs) F ∙ length-take-le i xs h
+
+  pub mapped-more : (g : B → ℕ) (i : ℕ) (out : List ℕ) → i < length xs
+      → set (map g (map F (take i xs)) over out) i (g (F (getD xs i d))) ≡ map g (map F (take (i + 1) xs)) over out
+  mapped-more g i out h =
+      shown-more g (map F (take i xs)) (F (getD xs i d)) out i (map-size i (omega arith))
+      ∙ ap (λ (l : List B). map g l over out) (sym (map-next i h))
+
+  pub mapped-past : (g : B → ℕ) (i : ℕ) (out : List ℕ) → i < length xs → length out ≤ i
+      → map g (map F (take i xs)) over out ≡ map g (map F (take (i + 1) xs)) over out
+  mapped-past g i out h l =
+      shown-past g (map F (take i xs)) (F (getD xs i d)) out (subst (λ (n : ℕ). length out ≤ n) (sym (map-size i (omega arith))) l)
+      ∙ ap (λ (l : List B). map g l over out) (sym (map-next i h))
+
+  pub mapped-all : (i : ℕ) → length xs ≤ i → map F (take i xs) ≡ map F xs
+  mapped-all i h = ap (map F) (take-all i xs h)
 
 up : (i n : ℕ) → i < n → suc i < suc n
 up i n h = omega arith
@@ -139,11 +172,18 @@ module _ {A B : Type 0} (R : A → B → Type 0) (d : A) (xs : List A)
   same-left os ps l (gives a) s t = same-shown (s .ys) (t .ys) (one-each d one (s .each) (t .each)) os ps l (s .all) (t .all)
   same-left os ps l (refused n) s t = same-kept os ps l s t
 
-  pub one-call : (n : ℕ) (os ps : List (Output B)) → Alike os ps → (a b : Answer Unit) → ListCall R xs n os a → ListCall R xs n ps b
-      → (a ≡ b) × Same os ps
-  one-call n os ps l a b s t =
-      let e : a ≡ b = s .number ∙ sym (t .number) in
+  pub one-call : (n m : ℕ) → n ≡ m → (os ps : List (Output B)) → Alike os ps → (a b : Answer Unit)
+      → ListCall R xs n os a → ListCall R xs m ps b → (a ≡ b) × Same os ps
+  one-call n m k os ps l a b s t =
+      let e : a ≡ b = s .number ∙ ap (λ (i : ℕ). owed i tt) k ∙ sym (t .number) in
       (e, same-left os ps l b (subst (Leaves R xs os) e (s .left)) (t .left))
+
+module _ {A B : Type 0} {R : A → B → Type 0} {xs : List A} {os : List (Output B)} {n : ℕ} where
+  pub call-refused : (k : ℕ) → n ≡ suc k → AllAsWere os → ListCall R xs n os (refused (suc k))
+  call-refused k e w = record { number = ap (λ (i : ℕ). owed i tt) (sym e); left = w }
+
+  pub call-done : n ≡ 0 → Written R xs os → ListCall R xs n os done
+  call-done e w = record { number = ap (λ (i : ℕ). owed i tt) (sym e); left = w }
 
 pub one-left : {A U W : Type 0} (a : Answer A) (o₀ : List ℕ) {p q : List ℕ} → (U → W → p ≡ q) → Left a U o₀ p → Left a W o₀ q → p ≡ q
 one-left (gives a) o₀ one s t = one s t

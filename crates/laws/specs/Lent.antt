@@ -28,7 +28,6 @@ use denote.Triple.Both.{Both}
 use Rattle.paper.specs.Answer.{Answer, gives, refused, owed}
 
 infixr 60 _over_
-
 pub record Lent : Type 0 where
   pub was : List ℕ
   pub is : List ℕ

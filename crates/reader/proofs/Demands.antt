@@ -3,47 +3,47 @@ use mathlib.Core.Path.{_≡_, refl, sym, ap, _∙_, subst}
 use mathlib.Core.List.{List, []}
 use mathlib.Core.Logic.{inl, inr}
 use Prim.Native.Nat.{ℕ, _-_, _^_, _<_, _≤_}
-use native.Mathlib.Decide.{ℕ-discrete}
+use native.Mathlib.Decide.{decLe, ℕ-discrete}
 use native.Mathlib.Omega.{arith}
 use lib.Bits.{bitXor, xor-self}
 use lib.Dec.{eqb, lit<, lit≤}
 use lib.ListN.{length, getD}
 use borrow.Author.Tests.{ne-eqb}
+use Rattle.paper.specs.Answer.{Answer, gives, refused}
+use Rattle.paper.proofs.Answer.{never-both}
 use Rattle.poly.specs.Poly.{rem}
 use Rattle.poly.proofs.Division.{is-divisible}
 use Rattle.bch.specs.Code.{position, differences, distance}
 use Rattle.bch.specs.Corrections.{mask, places, Entry}
 use Rattle.bch.proofs.Shown.{shown, places-short}
 use Rattle.bch.proofs.Nearest as bch
+use Rattle.bch.proofs.FiveApart.{five-apart, triangle, differences-sym}
 use Rattle.bch.proofs.Built.{table}
-use Rattle.frame.specs.Word.{wordOf, padOf, RunsRight, dataOf}
-use Rattle.reader.specs.Answers.{Answer, word, refused, flag}
+use Rattle.frame.specs.Word.{wordOf, padOf, RunsRight, Lawful, dataOf}
+use Rattle.tables.specs.Sums.{runSums}
+use Rattle.tables.proofs.Sums.{all-right}
+use Rattle.reader.specs.Answers.{Found, flag}
 use Rattle.reader.specs.Reads.{ReadAs, NothingNear, BrokenNear, Reads}
-use Rattle.reader.specs.Demands.{ReadsBack, SomeAnswer, OneAnswer, OneWord, Nearest, Only13, Only14, OnlyRead, StillLine}
-use Rattle.reader.proofs.RunBits.{runs-dec}
+use Rattle.reader.specs.Claims.{ReadsBack, SomeAnswer, OneAnswer, OneWord, Nearest, Only13, Only14, StillLine}
+use Rattle.reader.specs.Claims.{readOf, OnlyRead, OnlyRefused, SendersData, Misread}
 
-half : (f : ℕ) → f < 2 ^ 64 → wordOf f < 2 ^ 63
+pub half : (f : ℕ) → f < 2 ^ 64 → wordOf f < 2 ^ 63
 half f h = omega arith
 
 -- what was read is near
-pub near : {f d pad : ℕ} {ps : List ℕ} (r : ReadAs f d ps pad) → distance (r .sent) (wordOf f) ≤ 2
+pub near : {f : ℕ} {a : Found} (r : ReadAs f a) → distance (r .sent) (wordOf f) ≤ 2
 near r = subst (λ (n : ℕ). n ≤ 2) (sym (ap length (r .flips))) (r .few)
 
--- the same reading in other words
-pub read-as : {f d pad d′ pad′ : ℕ} {ps ps′ : List ℕ} → ReadAs f d ps pad → d′ ≡ d → ps ≡ ps′ → pad′ ≡ pad → ReadAs f d′ ps′ pad′
-read-as r e p q =
-    record {
-      sent = r .sent;
-      lawful = r .lawful;
-      flips = r .flips ∙ p;
-      few = subst (λ (l : List ℕ). length l ≤ 2) p (r .few);
-      carries = e ∙ r .carries;
-      padded = q ∙ r .padded;
-    }
+-- a lawful word within two flips is read
+pub read-of : (f w : ℕ) → Lawful w → distance w (wordOf f) ≤ 2 → Reads f (gives (readOf f w))
+read-of f w l k = record { sent = w; lawful = l; flips = refl; few = k; carries = refl; padded = refl }
 
 -- the word of a frame, with the places of an entry flipped
 abbrev pub mended : ℕ → ℕ → ℕ
 mended f e = bitXor (wordOf f) (mask e)
+
+abbrev pub mendedAs : ℕ → ℕ → Found
+mendedAs f e = record { «data» = dataOf (mended f e); places = places e; pad = flag (eqb (padOf f) (position (mended f e) 62)) }
 
 -- what the entry of the remainder says of a frame
 module _ (f e : ℕ) (h : f < 2 ^ 64) (t : Entry (rem 63 (wordOf f)) e) where
@@ -51,7 +51,7 @@ module _ (f e : ℕ) (h : f < 2 ^ 64) (t : Entry (rem 63 (wordOf f)) e) where
   no-word z = inl (refl, bch.no-word (wordOf f) (half f h) e t z)
 
   module _ (n : e ≡ 0 → ⊥) where
-    pub a-word : RunsRight (mended f e) → Reads f (word (dataOf (mended f e)) (places e) (flag (eqb (padOf f) (position (mended f e) 62))))
+    pub a-word : RunsRight (mended f e) → Reads f (gives (mendedAs f e))
     a-word r =
         let m = bch.mended (wordOf f) (half f h) e t n in
         record { sent = mended f e; lawful = record { code = m .0; runs = r }; flips = m .1; few = places-short e; carries = refl; padded = refl }
@@ -60,6 +60,44 @@ module _ (f e : ℕ) (h : f < 2 ^ 64) (t : Entry (rem 63 (wordOf f)) e) where
     run-broken b =
         let m = bch.mended (wordOf f) (half f h) e t n in
         inr (refl, record { sent = mended f e; code = m .0; near = subst (λ (k : ℕ). k ≤ 2) (sym (ap length (m .1))) (places-short e); broken = b })
+
+-- a word differs from itself nowhere
+none-differ : (w : ℕ) → differences w w ≡ []
+unfolding places mask
+none-differ w = shown w w 4095 (lit< tt) tt (xor-self w)
+
+-- a code word as it came
+module _ (f : ℕ) (h : f < 2 ^ 64) (z : rem 63 (wordOf f) ≡ 0) where
+  pub received : RunsRight (wordOf f)
+      → Reads f (gives (record { «data» = dataOf (wordOf f); places = []; pad = flag (eqb (padOf f) (position (wordOf f) 62)) }))
+  received r =
+      record {
+        sent = wordOf f;
+        lawful = record { code = is-divisible 51 (wordOf f) (half f h) z; runs = r };
+        flips = none-differ (wordOf f);
+        few = lit≤ tt;
+        carries = refl;
+        padded = refl;
+      }
+
+  pub received-broken : (RunsRight (wordOf f) → ⊥) → Reads f (refused 14)
+  received-broken b =
+      inr (
+        refl,
+        record {
+          sent = wordOf f;
+          code = is-divisible 51 (wordOf f) (half f h) z;
+          near = subst (λ (k : ℕ). k ≤ 2) (sym (ap length (none-differ (wordOf f)))) (lit≤ tt);
+          broken = b;
+        },
+      )
+
+runs-dec : (w : ℕ) → Dec (RunsRight w)
+runs-dec w = by (ℕ-discrete (runSums w) 7)
+  where
+    by : Dec (runSums w ≡ 7) → Dec (RunsRight w)
+    by (yes e) = yes (all-right w .1 e)
+    by (no n) = no (λ r. n (all-right w .0 r))
 
 pub some-answer : SomeAnswer
 some-answer f h = by (ℕ-discrete e 0)
@@ -70,11 +108,11 @@ some-answer f h = by (ℕ-discrete e 0)
     t : Entry (rem 63 (wordOf f)) e
     t = bch.entry-of (wordOf f) (half f h)
 
-    runs : (n : e ≡ 0 → ⊥) → Dec (RunsRight (mended f e)) → (a : Answer) × Reads f a
-    runs n (yes r) = (word (dataOf (mended f e)) (places e) (flag (eqb (padOf f) (position (mended f e) 62))), a-word f e h t n r)
+    runs : (n : e ≡ 0 → ⊥) → Dec (RunsRight (mended f e)) → (a : Answer Found) × Reads f a
+    runs n (yes r) = (gives (mendedAs f e), a-word f e h t n r)
     runs n (no b) = (refused 14, run-broken f e h t n b)
 
-    by : Dec (e ≡ 0) → (a : Answer) × Reads f a
+    by : Dec (e ≡ 0) → (a : Answer Found) × Reads f a
     by (yes z) = (refused 13, no-word f e h t z)
     by (no n) = runs n (runs-dec (mended f e))
 
@@ -84,25 +122,29 @@ one-word f h w w′ c c′ l l′ = bch.one-word (wordOf f) (half f h) w w′ c 
 beyond : (n : ℕ) → n ≤ 2 → 2 < n → ⊥
 beyond n a b = omega arith
 
-module _ (f : ℕ) (h : f < 2 ^ 64) where
-  same-read : {d pad d′ pad′ : ℕ} {ps ps′ : List ℕ} → ReadAs f d ps pad → ReadAs f d′ ps′ pad′ → word d ps pad ≡ word d′ ps′ pad′
-  same-read r s =
-      let e : r .sent ≡ s .sent = one-word f h (r .sent) (s .sent) (r .lawful .code) (s .lawful .code) (near r) (near s) in
-      λ i. word
-      ((r .carries ∙ ap dataOf e ∙ sym (s .carries)) i)
-      ((sym (r .flips) ∙ ap (λ (w : ℕ). differences w (wordOf f)) e ∙ s .flips) i)
-      ((r .padded ∙ ap (λ (w : ℕ). flag (eqb (padOf f) (position w 62))) e ∙ sym (s .padded)) i)
+-- what is read, field by field
+same-found : (a b : Found) → a .«data» ≡ b .«data» → a .places ≡ b .places → a .pad ≡ b .pad → a ≡ b
+same-found a b p q r = λ i. record { «data» = p i; places = q i; pad = r i }
 
-  read-or-nothing : {d pad : ℕ} {ps : List ℕ} → ReadAs f d ps pad → NothingNear f → ⊥
+module _ (f : ℕ) (h : f < 2 ^ 64) where
+  same-read : (a b : Found) → ReadAs f a → ReadAs f b → a ≡ b
+  same-read a b r s =
+      let e : r .sent ≡ s .sent = one-word f h (r .sent) (s .sent) (r .lawful .code) (s .lawful .code) (near r) (near s) in
+      same-found a b
+      (r .carries ∙ ap dataOf e ∙ sym (s .carries))
+      (sym (r .flips) ∙ ap (λ (w : ℕ). differences w (wordOf f)) e ∙ s .flips)
+      (r .padded ∙ ap (λ (w : ℕ). flag (eqb (padOf f) (position w 62))) e ∙ sym (s .padded))
+
+  read-or-nothing : {a : Found} → ReadAs f a → NothingNear f → ⊥
   read-or-nothing r n = beyond _ (near r) (n (r .sent) (r .lawful .code))
 
-  read-or-broken : {d pad : ℕ} {ps : List ℕ} → ReadAs f d ps pad → BrokenNear f → ⊥
+  read-or-broken : {a : Found} → ReadAs f a → BrokenNear f → ⊥
   read-or-broken r b =
       b .broken (subst RunsRight (one-word f h (r .sent) (b .sent) (r .lawful .code) (b .code) (near r) (b .near)) (r .lawful .runs))
 
-  read-or-refused : {d pad n : ℕ} {ps : List ℕ} → ReadAs f d ps pad → Reads f (refused n) → ⊥
-  read-or-refused r (inl q) = read-or-nothing r (q .1)
-  read-or-refused r (inr q) = read-or-broken r (q .1)
+  read-or-refused : (a : Found) (n : ℕ) → ReadAs f a → Reads f (refused n) → ⊥
+  read-or-refused a n r (inl q) = read-or-nothing r (q .1)
+  read-or-refused a n r (inr q) = read-or-broken r (q .1)
 
   nothing-or-broken : NothingNear f → BrokenNear f → ⊥
   nothing-or-broken n b = beyond _ (b .near) (n (b .sent) (b .code))
@@ -114,13 +156,13 @@ module _ (f : ℕ) (h : f < 2 ^ 64) where
   same-refusal (inr p) (inr q) = p .0 ∙ sym (q .0)
 
 pub one-answer : OneAnswer
-one-answer f h (word d ps pad) (word d′ ps′ pad′) r s = same-read f h r s
-one-answer f h (word d ps pad) (refused n) r s = absurd (read-or-refused f h r s)
-one-answer f h (refused n) (word d ps pad) r s = absurd (read-or-refused f h s r)
+one-answer f h (gives a) (gives b) r s = ap gives (same-read f h a b r s)
+one-answer f h (gives a) (refused n) r s = absurd (read-or-refused f h a n r s)
+one-answer f h (refused n) (gives a) r s = absurd (read-or-refused f h a n s r)
 one-answer f h (refused n) (refused m) r s = ap refused (same-refusal f h r s)
 
 pub nearest : Nearest
-nearest f h d pad ps r w c n = bch.nearest (wordOf f) (half f h) (r .sent) w (r .lawful .code) c (near r) n
+nearest f h a r w c n = bch.nearest (wordOf f) (half f h) (r .sent) w (r .lawful .code) c (near r) n
 
 pub only-13 : Only13
 only-13 f h a r = (λ n. one-answer f h a (refused 13) r (inl (refl, n)), λ e. by (subst (Reads f) e r))
@@ -137,17 +179,37 @@ only-14 f h a r = (λ b. one-answer f h a (refused 14) r (inr (refl, b)), λ e. 
     by (inr q) = q .1
 
 pub only-read : OnlyRead
-only-read f h (word d ps pad) r w l k = (d, pad, ps, refl)
-only-read f h (refused n) r w l k =
-    absurd
-    (read-or-refused f h
-    (record { sent = w; lawful = l; flips = refl; few = k; carries = refl; padded = refl })
-    r)
+only-read f h a r w l k = one-answer f h a (gives (readOf f w)) r (read-of f w l k)
 
--- a word differs from itself nowhere
-none-differ : (w : ℕ) → differences w w ≡ []
-unfolding places mask
-none-differ w = shown w w 4095 (lit< tt) tt (xor-self w)
+far : (n : ℕ) → (n ≤ 2 → ⊥) → 2 < n
+far n h = by (decLe n 2)
+  where
+    by : Dec (n ≤ 2) → 2 < n
+    by (yes l) = absurd (h l)
+    by (no m) = omega arith
+
+pub only-refused : OnlyRefused
+only-refused f h a r = (
+  none a r,
+  λ n e w l. far (distance w (wordOf f)) (λ k. never-both (readOf f w) n (sym (only-read f h a r w l k) ∙ e)),
+)
+  where
+    none : (a : Answer Found) → Reads f a → ((w : ℕ) → Lawful w → 2 < distance w (wordOf f)) → (n : ℕ) × (a ≡ refused n)
+    none (gives a) r q = absurd (beyond _ (near r) (q (r .sent) (r .lawful)))
+    none (refused n) r q = (n, refl)
+
+pub senders-data : SendersData
+senders-data d f g m h k a r = (readOf g (wordOf f), only-read g h a r (wordOf f) (m .lawful) k, m .carries, refl)
+
+-- the word that was read is not the one that was sent, so they are five apart
+pub misread : Misread
+misread d f g m h a r n =
+    let apart : 5 ≤ distance (wordOf f) (r .sent) =
+    five-apart (wordOf f) (r .sent) (m .lawful .code) (r .lawful .code) (λ e. n (r .carries ∙ ap dataOf (sym e) ∙ m .carries)) in
+    let way = triangle (wordOf f) (wordOf g) (r .sent) in
+    let back : distance (wordOf g) (r .sent) ≡ length (a .places) =
+    ap length (differences-sym (wordOf g) (r .sent)) ∙ ap length (r .flips) in
+    omega arith
 
 pub reads-back : ReadsBack
 reads-back d f m =
@@ -163,23 +225,12 @@ reads-back d f m =
     apart : (b : ℕ) → b ≡ 1 - b → ⊥
     apart b e = omega arith
 
--- a code word on the line that is its own word, with wrong run bits
-still : (f : ℕ) → f < 2 ^ 64 → rem 63 (wordOf f) ≡ 0 → (RunsRight (wordOf f) → ⊥) → (a : Answer) → Reads f a → a ≡ refused 14
-still f h e b a r =
-    one-answer f h a (refused 14) r
-    (inr (
-      refl,
-      record {
-        sent = wordOf f;
-        code = is-divisible 51 (wordOf f) (half f h) e;
-        near = subst (λ (k : ℕ). k ≤ 2) (sym (ap length (none-differ (wordOf f)))) (lit≤ tt);
-        broken = b;
-      },
-    ))
-
 pub still-line : StillLine
 unfolding rem
 still-line f a r = (
-  λ e. still 0 (lit< tt) refl (λ q. absurd (omega (arith, q .at-16))) a (subst (λ (i : ℕ). Reads i a) e r),
-  λ e. still (2 ^ 64 - 1) (lit< tt) refl (λ q. absurd (omega (arith, q .at-16))) a (subst (λ (i : ℕ). Reads i a) e r),
+  λ e. still 0 (lit< tt) refl (λ q. absurd (omega (arith, q .at-16))) (subst (λ (i : ℕ). Reads i a) e r),
+  λ e. still (2 ^ 64 - 1) (lit< tt) refl (λ q. absurd (omega (arith, q .at-16))) (subst (λ (i : ℕ). Reads i a) e r),
 )
+  where
+    still : (f : ℕ) (h : f < 2 ^ 64) → rem 63 (wordOf f) ≡ 0 → (RunsRight (wordOf f) → ⊥) → Reads f a → a ≡ refused 14
+    still f h z b r = one-answer f h a (refused 14) r (received-broken f h z b)

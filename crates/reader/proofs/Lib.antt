@@ -1,4 +1,4 @@
-pub mod RunBits
 pub mod Demands
+pub mod ByTables
+pub mod Turns
 pub mod OneAnswer
-pub mod Entries

@@ -1,30 +1,28 @@
 -- Each call's contract leaves one answer.
 -- ┌───────────────┬────────────────────────────────────────────────────────────────┐
 -- │ answer-one    │ two readings of one answer are the same                        │
--- │ listed-one    │ two answers of a list call of one number are the same          │
--- │ shown-one     │ what a list shows of a frame is one number                     │
--- │ one-reading … │ the statements of specs/Demands.antt by these names            │
+-- │ one-reading … │ the statements of specs/Claims.antt by these names             │
 -- └───────────────┴────────────────────────────────────────────────────────────────┘
-use mathlib.Core.Path.{_≡_, refl, sym, ap, _∙_, subst}
+use mathlib.Core.Path.{_≡_, refl, sym, ap, ap₂, _∙_}
 use mathlib.Core.Bool.{Bool, true, false}
 use mathlib.Core.List.{List}
 use Prim.Native.Nat.{ℕ, _<_}
 use native.Mathlib.Omega.{arith}
 use lib.ListN.{length, getD}
-use Rattle.laws.specs.Lent.{Left}
-use Rattle.laws.proofs.Writing.{one-written, one-left}
+use Rattle.paper.specs.Answer.{Answer}
+use Rattle.paper.proofs.Answer.{gives-one, refused-one, never-both}
+use Rattle.laws.proofs.Writing.{one-call}
 use Rattle.octets.specs.Octets.{numbersOf}
 use Rattle.octets.proofs.Joined.{numbers-lt}
-use Rattle.octets.proofs.Writing.{one-bytes}
-use Rattle.reader.specs.Answers.{Answer, word, placesOf, flag, answer, verdict, dataIn, padIn, listed}
+use Rattle.reader.specs.Answers.{Found, placesOf, flag, found, answer, verdict}
 use Rattle.reader.specs.Reads.{Reads}
-use Rattle.reader.specs.Demands.{Numbers, OneReading, OneReadList, OneReadPads, OneReadBytes}
+use Rattle.reader.specs.Lists.{listRefusal, padsRefusal, bytesRefusal, listShown, allShown, bytesShown}
+use Rattle.reader.specs.Claims.{Numbers, OneReading, OneVerdict, OneReadList, OneReadPads, OneReadBytes}
 use Rattle.reader.specs.declared.Flips.{Flips}
 use Rattle.reader.specs.declared.Flips.the-variants.{Nowhere, One, Two}
+use Rattle.reader.specs.declared.Word.{Word}
 use Rattle.reader.specs.declared.Reading.{Reading}
-use Rattle.reader.specs.declared.Reading.the-variants.{Word, NoWord, RunBroken}
-use Rattle.reader.specs.declared.Listed.{Listed}
-use Rattle.reader.specs.declared.Listed.the-variants.{Done, Short}
+use Rattle.reader.specs.declared.Reading.the-variants.{Lawful, Refused}
 use Rattle.reader.proofs.Demands.{one-answer}
 
 places-one : (p q : Flips) → placesOf p ≡ placesOf q → p ≡ q
@@ -44,62 +42,45 @@ flag-one true false e = absurd (omega arith)
 flag-one false true e = absurd (omega arith)
 flag-one false false e = refl
 
-word-one : (d e x y : ℕ) (ps qs : List ℕ) → word d ps x ≡ word e qs y → (d ≡ e) × (ps ≡ qs) × (x ≡ y)
-word-one d e x y ps qs h = (cc, cc, cc)
+word-one : (v w : Word) → found v ≡ found w → v ≡ w
+word-one v w e = λ i.
+    record {
+      «data» = ap (λ (x : Found). x .«data») e i;
+      flips = places-one (v .flips) (w .flips) (ap (λ (x : Found). x .places) e) i;
+      «pad_wrong» = flag-one (v .«pad_wrong») (w .«pad_wrong») (ap (λ (x : Found). x .pad) e) i;
+    }
 
 pub answer-one : (r s : Reading) → answer r ≡ answer s → r ≡ s
-answer-one (Word d p a) (Word e q b) h =
-    let w = word-one d e (flag a) (flag b) (placesOf p) (placesOf q) h in
-    λ i. Word (w .0 i) (places-one p q (w .1) i) (flag-one a b (w .2) i)
-answer-one (Word d p a) NoWord h = cc
-answer-one (Word d p a) RunBroken h = cc
-answer-one NoWord (Word d p a) h = cc
-answer-one NoWord NoWord h = refl
-answer-one NoWord RunBroken h = absurd (let z : _≡_ {A = ℕ} 13 14 = cc in omega arith)
-answer-one RunBroken (Word d p a) h = cc
-answer-one RunBroken NoWord h = absurd (let z : _≡_ {A = ℕ} 14 13 = cc in omega arith)
-answer-one RunBroken RunBroken h = refl
-
-pub listed-one : (r s : Listed) → listed r ≡ listed s → r ≡ s
-listed-one Done Done e = refl
-listed-one Done Short e = absurd (omega arith)
-listed-one Short Done e = absurd (omega arith)
-listed-one Short Short e = refl
+answer-one (Lawful v) (Lawful w) e = ap Lawful (word-one v w (gives-one (found v) (found w) e))
+answer-one (Lawful v) (Refused n) e = absurd (never-both (found v) n e)
+answer-one (Refused m) (Lawful w) e = absurd (never-both (found w) m (sym e))
+answer-one (Refused m) (Refused n) e = ap Refused (refused-one m n e)
 
 pub one-reading : OneReading
 one-reading f h r s p q = answer-one r s (one-answer f h (answer r) (answer s) p q)
 
-pub shown-one : (fs : List ℕ) → Numbers fs → (shown : Answer → ℕ) (i : ℕ) → i < length fs → (x y : ℕ)
-    → (a : Answer) × Reads (getD fs i 0) a × (x ≡ shown a) → (a : Answer) × Reads (getD fs i 0) a × (y ≡ shown a) → x ≡ y
-shown-one fs n shown i h x y (a, r, e) (b, s, g) = e ∙ ap shown (one-answer (getD fs i 0) (n i h) a b r s) ∙ sym g
+pub one-verdict : OneVerdict
+one-verdict f h v w (a, r, e) (b, s, g) = e ∙ ap verdict (one-answer f h a b r s) ∙ sym g
 
--- a lent output, after two calls of one number
-left-one : {U W : Type 0} {out₀ a b : List ℕ} (r s : Listed) → r ≡ s → (U → W → a ≡ b)
-    → Left (listed r) U out₀ a → Left (listed s) W out₀ b → a ≡ b
-left-one {U} {W} {out₀} {a} {b} r s e one p q = one-left one (subst (λ (t : Listed). Left (listed t) U out₀ a) e p) q
+one-at : (fs : List ℕ) → Numbers fs → (i : ℕ) → i < length fs → (a b : Answer Found) → Reads (getD fs i 0) a → Reads (getD fs i 0) b → a ≡ b
+one-at fs n i h a b r s = one-answer (getD fs i 0) (n i h) a b r s
 
 pub one-read-list : OneReadList
-one-read-list fs ds₀ vs₀ ds ds′ vs vs′ r s n p q =
-    let e : r ≡ s = listed-one r s (p .number ∙ sym (q .number)) in (
-      e,
-      left-one r s e (one-written (shown-one fs n dataIn)) (p .«data») (q .«data»),
-      left-one r s e (one-written (shown-one fs n verdict)) (p .verdicts) (q .verdicts),
-    )
+one-read-list fs d d′ v v′ a b n x y p q =
+    let k : listRefusal fs (d .was) (v .was) ≡ listRefusal fs (d′ .was) (v′ .was) = ap₂ (listRefusal fs) x y in
+    let o = one-call Reads 0 fs (one-at fs n) _ _ k (listShown d v) (listShown d′ v′) (refl, x, (refl, y, tt)) a b p q in
+    (o .0, o .1 .0, o .1 .1 .0)
 
 pub one-read-pads : OneReadPads
-one-read-pads fs ds₀ vs₀ ps₀ ds ds′ vs vs′ ps ps′ r s n p q =
-    let e : r ≡ s = listed-one r s (p .number ∙ sym (q .number)) in (
-      e,
-      left-one r s e (one-written (shown-one fs n dataIn)) (p .«data») (q .«data»),
-      left-one r s e (one-written (shown-one fs n verdict)) (p .verdicts) (q .verdicts),
-      left-one r s e (one-written (shown-one fs n padIn)) (p .pads) (q .pads),
-    )
+one-read-pads fs d d′ v v′ t t′ a b n x y z p q =
+    let k : padsRefusal fs (d .was) (v .was) (t .was) ≡ padsRefusal fs (d′ .was) (v′ .was) (t′ .was) =
+    λ i. padsRefusal fs (x i) (y i) (z i) in
+    let o = one-call Reads 0 fs (one-at fs n) _ _ k (allShown d v t) (allShown d′ v′ t′) (refl, x, (refl, y, (refl, z, tt))) a b p q in
+    (o .0, o .1 .0, o .1 .1 .0, o .1 .1 .1 .0)
 
 pub one-read-bytes : OneReadBytes
-one-read-bytes fs ds₀ vs₀ ds ds′ vs vs′ r s o p q =
-    let e : r ≡ s = listed-one r s (p .number ∙ sym (q .number)) in
-    let n : Numbers (numbersOf fs) = numbers-lt fs o in (
-      e,
-      left-one r s e (one-bytes (shown-one (numbersOf fs) n dataIn)) (p .«data») (q .«data»),
-      left-one r s e (one-written (shown-one (numbersOf fs) n verdict)) (p .verdicts) (q .verdicts),
-    )
+one-read-bytes fs d d′ v v′ a b n x y p q =
+    let k : bytesRefusal fs (d .was) (v .was) ≡ bytesRefusal fs (d′ .was) (v′ .was) = ap₂ (bytesRefusal fs) x y in
+    let o =
+    one-call Reads 0 (numbersOf fs) (one-at (numbersOf fs) (numbers-lt fs n)) _ _ k (bytesShown d v) (bytesShown d′ v′) (refl, x, (refl, y, tt)) a b p q in
+    (o .0, o .1 .0, o .1 .1 .0)

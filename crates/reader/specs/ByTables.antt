@@ -3,9 +3,12 @@
 -- │ byteOf f k      │ byte k of a frame, counted from the lowest                   │
 -- │ sumsBy b n f    │ the sum of the entries of b for the n lowest bytes of f      │
 -- │ Mended          │ a word, the places flipped to reach it, and its run sums     │
+-- │ asReceived x f  │ a word of remainder 0 is a code word as it came              │
+-- │ byEntry n x f   │ mended by the entry n and the run sums above it; 13 for none │
 -- │ mendBy c x f    │ the word of f, whose sums are x, mended by the entry of c    │
--- │                 │ for its remainder; 13 where that has none                    │
--- │ saidBy f m      │ what a mended word says: 14 where its run sums are not right │
+-- │                 │ for its remainder                                            │
+-- │ lawfulBy f m    │ what a mended word says: 14 where its run sums are not right │
+-- │ saidBy f a      │ the same, of what mending answers                            │
 -- │ readBy c b f    │ both                                                         │
 -- └─────────────────┴──────────────────────────────────────────────────────────────┘
 use mathlib.Core.Bool.{cond}
@@ -16,7 +19,6 @@ use lib.Dec.{eqb}
 use lib.ListN.{getD}
 use Rattle.paper.specs.Numbers.{noWord, runBroken}
 use Rattle.paper.specs.Answer.{Answer, gives, refused}
-use Rattle.bch.specs.Code.{position}
 use Rattle.bch.specs.Corrections.{places, mask}
 use Rattle.frame.specs.Word.{wordOf, padOf, dataOf}
 use Rattle.tables.specs.Sums.{allRight}
@@ -35,6 +37,10 @@ pub record Mended : Type 0 where
   pub places : List ℕ
   pub runs : ℕ
 
+-- a code word as it came
+abbrev pub asReceived : ℕ → ℕ → Answer Mended
+asReceived x f = gives (record { sent = wordOf f; places = []; runs = x / 4096 })
+
 -- by an entry and the run sums above it
 abbrev pub byEntry : ℕ → ℕ → ℕ → Answer Mended
 byEntry n x f =
@@ -42,14 +48,16 @@ byEntry n x f =
     (gives (record { sent = bitXor (wordOf f) (mask (entryOf n)); places = places (entryOf n); runs = bitXor x n / 4096 }))
 
 abbrev pub mendBy : List ℕ → ℕ → ℕ → Answer Mended
-mendBy c x f =
-    cond (eqb (x % 4096) 0) (gives (record { sent = wordOf f; places = []; runs = x / 4096 })) (byEntry (getD c (x % 4096) 0) x f)
+mendBy c x f = cond (eqb (x % 4096) 0) (asReceived x f) (byEntry (getD c (x % 4096) 0) x f)
+
+abbrev pub lawfulBy : ℕ → Mended → Answer Found
+lawfulBy f m =
+    cond (eqb (m .runs) allRight)
+    (gives (record { «data» = dataOf (m .sent); places = m .places; pad = flag (eqb (padOf f) (m .sent % 2)) }))
+    (refused runBroken)
 
 abbrev pub saidBy : ℕ → Answer Mended → Answer Found
-saidBy f (gives m) =
-    cond (eqb (m .runs) allRight)
-    (gives (record { «data» = dataOf (m .sent); places = m .places; pad = flag (eqb (padOf f) (position (m .sent) 62)) }))
-    (refused runBroken)
+saidBy f (gives m) = lawfulBy f m
 saidBy f (refused n) = refused n
 
 unfoldable pub readBy : List ℕ → List ℕ → ℕ → Answer Found

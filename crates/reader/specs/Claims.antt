@@ -14,7 +14,8 @@
 -- │ OnlyRefused  │ a refusal is answered exactly where no lawful word is           │
 -- │ SendersData  │ up to two flips of a made frame, in its first 63 bits, are read │
 -- │              │ as its data and those places                                    │
--- │ FlipsUnseen  │ a frame read with no flip is the one sent or has five or more   │
+-- │ Misread      │ a frame read as other data than was sent had five flips or      │
+-- │              │ more, less one for each flip that is answered                   │
 -- │ StillLine    │ 64 zeros and 64 ones are refused, with 14                       │
 -- │ ByTheTables  │ reading by lent tables that have their rules is reading         │
 -- │ OneReading   │ no second `Reading` meets the contract of `read`                │
@@ -26,7 +27,7 @@
 -- └──────────────┴─────────────────────────────────────────────────────────────────┘
 use mathlib.Core.Path.{_≡_}
 use mathlib.Core.List.{List, []}
-use Prim.Native.Nat.{ℕ, _-_, _^_, _<_, _≤_}
+use Prim.Native.Nat.{ℕ, _+_, _-_, _^_, _<_, _≤_}
 use lib.Dec.{eqb}
 use lib.ListN.{length, getD}
 use Rattle.paper.specs.Numbers.{noWord, runBroken}
@@ -36,10 +37,10 @@ use Rattle.laws.specs.Lent.{Lent}
 use Rattle.bch.specs.Code.{CodeWord, position, differences, distance}
 use Rattle.frame.specs.Word.{wordOf, padOf, dataOf, Lawful, FrameOf}
 use Rattle.tables.specs.Tables.{Mends, ByteSums}
-use Rattle.reader.specs.Answers.{Found, flag, answer, verdict}
+use Rattle.reader.specs.Answers.{Found, flag, answer}
 use Rattle.reader.specs.Reads.{ReadAs, NothingNear, BrokenNear, Reads}
 use Rattle.reader.specs.ByTables.{readBy}
-use Rattle.reader.specs.Lists.{ReadsList, ReadsPads, ReadsBytes}
+use Rattle.reader.specs.Lists.{VerdictOf, ReadsList, ReadsPads, ReadsBytes}
 use Rattle.reader.specs.declared.Reading.{Reading}
 
 abbrev pub ReadsBack : Type 0
@@ -86,9 +87,9 @@ abbrev pub SendersData : Type 0
 SendersData = (d f g : ℕ) → FrameOf d f → g < 2 ^ 64 → distance (wordOf f) (wordOf g) ≤ 2 → (a : Answer Found) → Reads g a
     → (r : Found) × (a ≡ gives r) × (r .«data» ≡ d) × (r .places ≡ differences (wordOf f) (wordOf g))
 
-abbrev pub FlipsUnseen : Type 0
-FlipsUnseen = (d f g : ℕ) → FrameOf d f → g < 2 ^ 64 → (r : Found) → Reads g (gives r) → r .places ≡ []
-    → (wordOf f ≡ wordOf g → ⊥) → 5 ≤ distance (wordOf f) (wordOf g)
+abbrev pub Misread : Type 0
+Misread = (d f g : ℕ) → FrameOf d f → g < 2 ^ 64 → (r : Found) → Reads g (gives r) → (r .«data» ≡ d → ⊥)
+    → 5 ≤ distance (wordOf f) (wordOf g) + length (r .places)
 
 abbrev pub StillLine : Type 0
 StillLine = (f : ℕ) → (a : Answer Found) → Reads f a
@@ -102,7 +103,7 @@ abbrev pub OneReading : Type 0
 OneReading = (f : ℕ) → f < 2 ^ 64 → (r s : Reading) → Reads f (answer r) → Reads f (answer s) → r ≡ s
 
 abbrev pub OneVerdict : Type 0
-OneVerdict = (f : ℕ) → f < 2 ^ 64 → (a b : Answer Found) → Reads f a → Reads f b → verdict a ≡ verdict b
+OneVerdict = (f : ℕ) → f < 2 ^ 64 → (v w : ℕ) → VerdictOf f v → VerdictOf f w → v ≡ w
 
 abbrev pub Numbers : List ℕ → Type 0
 Numbers fs = (i : ℕ) → i < length fs → getD fs i 0 < 2 ^ 64

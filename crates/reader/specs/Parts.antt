@@ -1,10 +1,32 @@
 -- What the private functions owe beyond the other files. No public contract cites it.
--- ┌─────────────┬──────────────────────────────────────────────────────────────────┐
--- │ Decides P r │ r is true where P holds and false where it does not              │
--- └─────────────┴──────────────────────────────────────────────────────────────────┘
+-- ┌────────────────────┬─────────────────────────────────────────────────────────────┐
+-- │ mended m           │ what a `Mended` is                                          │
+-- │ mending m          │ the answer that a `Mending` is                              │
+-- │ ShowsBy c b g fs o │ the output o shows what g takes of each frame of fs, read   │
+-- │                    │ by the tables c and b                                       │
+-- │ ShowsBytesBy       │ the same, eight bytes a number                              │
+-- └────────────────────┴─────────────────────────────────────────────────────────────┘
 use mathlib.Core.Path.{_≡_}
-use mathlib.Core.Bool.{Bool, true, false}
+use mathlib.Core.List.{List, map}
+use Prim.Native.Nat.{ℕ}
+use Rattle.paper.specs.Answer.{Answer, gives, refused}
+use Rattle.laws.specs.Lent.{Lent, _over_}
+use Rattle.octets.specs.Octets.{bytesOf}
+use Rattle.reader.specs.Answers.{Found, placesOf}
+use Rattle.reader.specs.ByTables.{Mended, readBy}
+use Rattle.reader.specs.declared.mend.Mended.{Mended as Near-word}
+use Rattle.reader.specs.declared.mend.Mending.{Mending}
+use Rattle.reader.specs.declared.mend.Mending.the-variants.{Near, Refused}
 
-pub record Decides (P : Type 0) (r : Bool) : Type 0 where
-  pub holds : r ≡ true → P
-  pub fails : r ≡ false → P → ⊥
+abbrev pub mended : Near-word → Mended
+mended m = record { sent = m .word; places = placesOf (m .flips); runs = m .runs }
+
+abbrev pub mending : Mending → Answer Mended
+mending (Near m) = gives (mended m)
+mending (Refused n) = refused n
+
+abbrev pub ShowsBy : List ℕ → List ℕ → (Answer Found → ℕ) → List ℕ → Lent → Type 0
+ShowsBy c b g fs o = o .is ≡ map g (map (readBy c b) fs) over o .was
+
+abbrev pub ShowsBytesBy : List ℕ → List ℕ → (Answer Found → ℕ) → List ℕ → Lent → Type 0
+ShowsBytesBy c b g fs o = o .is ≡ bytesOf (map g (map (readBy c b) fs)) over o .was

@@ -1,55 +1,58 @@
 // The list form on bytes: a number is eight bytes, highest first.
 ghost use Prim.Native.Nat.{_/_, _≤_};
 ghost use lib.ListN.{length};
-ghost use Rattle.laws.specs.Lent.{Written};
+ghost use Rattle.paper.specs.Answer.{listed};
+ghost use Rattle.laws.specs.Lent.{lent, Written};
 ghost use Rattle.octets.specs.Octets.{numbersOf};
-ghost use Rattle.octets.specs.Lent.{WrittenBytes};
-ghost use Rattle.reader.specs.Answers.{listed};
-ghost use Rattle.reader.specs.Lists.{DataOf, VerdictOf};
-ghost use Rattle.reader.specs.Bytes.{ReadsBytes};
-use crate::Listed;
-use crate::lists::data_in;
-use crate::mend::look;
-use crate::mend::reading;
-use crate::mend::remainder_by;
+ghost use Rattle.reader.specs.Answers.{verdict, dataIn};
+ghost use Rattle.reader.specs.Reads.{Reads};
+ghost use Rattle.reader.specs.Lists.{bytesShown, ReadsBytes};
+ghost use Rattle.reader.specs.Parts.{ShowsBy, ShowsBytesBy};
+use crate::data_of;
+use crate::read_by;
 use crate::verdict_of;
+use paper::Listed;
 
-// The tables are taken once. A frame is put together a turn before it is read: whole, not for its bytes alone.
-fn read_each(frames: &[u8], data: &mut [u8], verdicts: &mut [u8])
+fn read_each(c: &[u16; 4096], b: &[u16; 2048], frames: &[u8], data: &mut [u8], verdicts: &mut [u8])
     requires { ⌜ (length (now frames) ≤ length (now «data»)) × (length (now frames) / 8 ≤ length (now verdicts)) ⌝ }
-    ensures data { λ _. ⌜ WrittenBytes DataOf (numbersOf (now (frames .entry))) (now («data» .entry)) (now («data» .exit)) (length (now (frames .entry)) / 8) ⌝ }
-    ensures verdicts { λ _. ⌜ Written VerdictOf (numbersOf (now (frames .entry))) (now (verdicts .entry)) (now (verdicts .exit)) (length (now (frames .entry)) / 8) ⌝ }
+    ensures data { λ _. ⌜ ShowsBytesBy (now (c .entry)) (now (b .entry)) dataIn (numbersOf (now (frames .entry))) (lent «data») ⌝ }
+    ensures verdicts { λ _. ⌜ ShowsBy (now (c .entry)) (now (b .entry)) verdict (numbersOf (now (frames .entry))) (lent verdicts) ⌝ }
 {
-    let t = tables::corrections();
-    let b = tables::byte_remainders();
     let mut i = 0;
-    let mut frame = octets::number(frames, i);
     while i < frames.len() / 8 {
-        let r = reading(look(&t, remainder_by(&b, frame / 2)), frame);
-        let verdict = verdict_of(r);
-        octets::store(data, i, data_in(r));
-        verdicts[i] = verdict;
+        let r = read_by(c, b, octets::number(frames, i));
+        octets::store(data, i, data_of(r));
+        verdicts[i] = verdict_of(r);
         i += 1;
-        frame = octets::number(frames, i);
     }
+}
+
+// The tables are taken once.
+fn read_all(frames: &[u8], data: &mut [u8], verdicts: &mut [u8])
+    requires { ⌜ (length (now frames) ≤ length (now «data»)) × (length (now frames) / 8 ≤ length (now verdicts)) ⌝ }
+    ensures { λ _. ⌜ Written Reads (numbersOf (now (frames .entry))) (bytesShown (lent «data») (lent verdicts)) ⌝ }
+{
+    let c = tables::corrections();
+    let b = tables::byte_sums();
+    read_each(&c, &b, frames, data, verdicts);
 }
 
 // The data and the verdict byte of each frame, at the front of two lent outputs.
 pub fn read_bytes(frames: &[u8], data: &mut [u8], verdicts: &mut [u8]) -> Listed
-    ensures { λ r. ⌜ ReadsBytes (now (frames .entry)) (now («data» .entry)) (now (verdicts .entry)) (listed r) (now («data» .exit)) (now (verdicts .exit)) ⌝ }
+    ensures { λ r. ⌜ ReadsBytes (now (frames .entry)) (lent «data») (lent verdicts) (listed r) ⌝ }
 {
     if frames.len() % 8 != 0 {
-        return Listed::Short;
+        return Listed::Refused(paper::UNFIT);
     }
     if data.len() % 8 != 0 {
-        return Listed::Short;
+        return Listed::Refused(paper::UNFIT);
     }
     if data.len() < frames.len() {
-        return Listed::Short;
+        return Listed::Refused(paper::UNFIT);
     }
     if verdicts.len() < frames.len() / 8 {
-        return Listed::Short;
+        return Listed::Refused(paper::UNFIT);
     }
-    read_each(frames, data, verdicts);
+    read_all(frames, data, verdicts);
     Listed::Done
 }

@@ -1,13 +1,19 @@
 // The reader of frames: of any 64 received bits, of a list, of a list of bytes.
 ghost use mathlib.Core.Path.{_≡_};
-ghost use Rattle.reader.specs.Answers.{answer, verdict, listed};
+ghost use lib.ListN.{length};
+ghost use Rattle.paper.specs.Answer.{listed};
+ghost use Rattle.laws.specs.Lent.{lent};
+ghost use Rattle.reader.specs.Answers.{placesOf, answer, verdict, dataIn, padIn};
 ghost use Rattle.reader.specs.Reads.{Reads};
+ghost use Rattle.reader.specs.ByTables.{readBy};
 ghost use Rattle.reader.specs.Lists.{ReadsList, ReadsPads};
+use paper::Listed;
 
 mod bytes;
 mod lists;
 mod mend;
-mod word;
+mod said;
+mod sums;
 
 pub use bytes::read_bytes;
 
@@ -18,30 +24,47 @@ pub enum Flips {
     Two(u64, u64),
 }
 
+// What a lawful word within two flips says of the frame that was received.
+pub struct Word {
+    pub data: u64,
+    pub flips: Flips,
+    pub pad_wrong: bool,
+}
+
 // What reading a frame finds: a lawful word, or 13, or 14.
 pub enum Reading {
-    Word {
-        data: u64,
-        flips: Flips,
-        pad_wrong: bool,
-    },
-    NoWord,
-    RunBroken,
+    Lawful(Word),
+    Refused(u8),
 }
 
-// What a list call answers: done, or 12 for lengths that do not fit.
-pub enum Listed {
-    Done,
-    Short,
-}
-
-// Any 64 received bits, read. The table of corrections is written anew by each call: for many frames lend a list.
+// Any 64 received bits, read. Where the remainder is not 0 the table of corrections is written anew: for many frames lend the tables.
 pub fn read(frame: u64) -> Reading
     ensures { λ r. ⌜ Reads frame (answer r) ⌝ }
 {
-    let t = tables::corrections();
-    let e = mend::look(&t, poly::remainder(frame / 2));
-    mend::reading(e, frame)
+    let x = sums::sums_of(frame / 2);
+    if x % 4096 == 0 {
+        return said::said(frame, mend::as_received(x, frame));
+    }
+    mend::by_own_table(x, frame)
+}
+
+// The same by tables that are lent: `corrections` and `byte_sums` of the crate tables.
+pub fn read_by(corrections: &[u16; 4096], sums: &[u16; 2048], frame: u64) -> Reading
+    ensures { λ r. ⌜ answer r ≡ readBy (now (corrections .entry)) (now (sums .entry)) frame ⌝ }
+{
+    let x = sums::sums_by(sums, frame);
+    said::said(frame, mend::mend_by(corrections, x, frame))
+}
+
+fn how_many(w: Word) -> u8
+    ensures { λ x. ⌜ x ≡ length (placesOf (w .flips)) ⌝ }
+{
+    let flips = w.flips;
+    match flips {
+        Flips::Nowhere => 0,
+        Flips::One(_) => 1,
+        Flips::Two(_, _) => 2,
+    }
 }
 
 // The verdict byte of a reading: 0, 1 or 2 flips, 13 or 14.
@@ -49,39 +72,40 @@ pub fn verdict_of(r: Reading) -> u8
     ensures { λ x. ⌜ x ≡ verdict (answer r) ⌝ }
 {
     match r {
-        Reading::Word {
-            data: _,
-            flips,
-            pad_wrong: _,
-        } => match flips {
-            Flips::Nowhere => 0,
-            Flips::One(_) => 1,
-            Flips::Two(_, _) => 2,
-        },
-        Reading::NoWord => paper::NO_WORD,
-        Reading::RunBroken => paper::RUN_BROKEN,
+        Reading::Lawful(w) => how_many(w),
+        Reading::Refused(n) => n,
     }
 }
 
-// The number of a list call's answer: 0 where it is done.
-pub fn number_of(l: Listed) -> u8
-    ensures { λ n. ⌜ n ≡ listed l ⌝ }
+// The data of a reading in a list, 0 where the frame is refused.
+pub fn data_of(r: Reading) -> u64
+    ensures { λ x. ⌜ x ≡ dataIn (answer r) ⌝ }
 {
-    match l {
-        Listed::Done => 0,
-        Listed::Short => paper::UNFIT,
+    match r {
+        Reading::Lawful(w) => w.data,
+        Reading::Refused(_) => 0,
+    }
+}
+
+// The pad flag of a reading in a list, 1 for wrong, 0 where the frame is refused.
+pub fn pad_of(r: Reading) -> u8
+    ensures { λ x. ⌜ x ≡ padIn (answer r) ⌝ }
+{
+    match r {
+        Reading::Lawful(w) => { if w.pad_wrong { 1 } else { 0 } }
+        Reading::Refused(_) => 0,
     }
 }
 
 // The data and the verdict byte of each frame of a list, at the front of two lent outputs.
 pub fn read_list(frames: &[u64], data: &mut [u64], verdicts: &mut [u8]) -> Listed
-    ensures { λ r. ⌜ ReadsList (now (frames .entry)) (now («data» .entry)) (now (verdicts .entry)) (listed r) (now («data» .exit)) (now (verdicts .exit)) ⌝ }
+    ensures { λ r. ⌜ ReadsList (now (frames .entry)) (lent «data») (lent verdicts) (listed r) ⌝ }
 {
     if data.len() < frames.len() {
-        return Listed::Short;
+        return Listed::Refused(paper::UNFIT);
     }
     if verdicts.len() < frames.len() {
-        return Listed::Short;
+        return Listed::Refused(paper::UNFIT);
     }
     let mut no_pads = [0u8; 1];
     lists::read_all(frames, data, verdicts, &mut no_pads);
@@ -95,16 +119,16 @@ pub fn read_list_pads(
     verdicts: &mut [u8],
     pads: &mut [u8],
 ) -> Listed
-    ensures { λ r. ⌜ ReadsPads (now (frames .entry)) (now («data» .entry)) (now (verdicts .entry)) (now (pads .entry)) (listed r) (now («data» .exit)) (now (verdicts .exit)) (now (pads .exit)) ⌝ }
+    ensures { λ r. ⌜ ReadsPads (now (frames .entry)) (lent «data») (lent verdicts) (lent pads) (listed r) ⌝ }
 {
     if data.len() < frames.len() {
-        return Listed::Short;
+        return Listed::Refused(paper::UNFIT);
     }
     if verdicts.len() < frames.len() {
-        return Listed::Short;
+        return Listed::Refused(paper::UNFIT);
     }
     if pads.len() < frames.len() {
-        return Listed::Short;
+        return Listed::Refused(paper::UNFIT);
     }
     lists::read_all(frames, data, verdicts, pads);
     Listed::Done

@@ -1,45 +1,28 @@
-// Reading by a table that is lent: the entry of the remainder, the places it flips, and what the mended word says.
+// Mending, over all code words: the word within two flips, the places to reach it, its run sums.
 ghost use mathlib.Core.Path.{_≡_};
-ghost use Prim.Native.Nat.{_/_, _%_, _<_, _^_};
-ghost use lib.Bits.{bitXor};
-ghost use lib.Dec.{T, eqb};
-ghost use Rattle.poly.specs.Poly.{wordBits, rem};
-ghost use Rattle.poly.specs.Bytes.{ByteTable};
-ghost use Rattle.bch.specs.Corrections.{valid, places, mask, Entry, Corrections};
-ghost use Rattle.frame.specs.Word.{dataOf};
-ghost use Rattle.reader.specs.Answers.{word, placesOf, flag, answer};
+ghost use Prim.Native.Nat.{_<_, _%_};
+ghost use lib.Dec.{eqb};
+ghost use Rattle.bch.specs.Corrections.{places, mask};
+ghost use Rattle.frame.specs.Word.{wordOf};
+ghost use Rattle.tables.specs.Sums.{sums};
+ghost use Rattle.reader.specs.Answers.{placesOf, answer};
 ghost use Rattle.reader.specs.Reads.{Reads};
+ghost use Rattle.reader.specs.ByTables.{asReceived, byEntry, mendBy};
+ghost use Rattle.reader.specs.Parts.{mending};
 use crate::Flips;
 use crate::Reading;
-use crate::word::data_of;
-use crate::word::runs_right;
+use crate::said;
+use crate::sums::wide;
 
-fn wide(x: u16) -> u64
-    ensures { λ r. ⌜ r ≡ x ⌝ }
-{
-    x as u64
+pub(crate) struct Mended {
+    pub(crate) word: u64,
+    pub(crate) flips: Flips,
+    pub(crate) runs: u64,
 }
 
-// The entry of a remainder.
-pub(crate) fn look(t: &[u16; 4096], r: u64) -> u64
-    requires { ⌜ (r < 4096) × Corrections (now t) ⌝ }
-    ensures { λ e. ⌜ Entry r e ⌝ }
-{
-    wide(t[r as usize])
-}
-
-// The remainder of a word, a byte at a time.
-pub(crate) fn remainder_by(b: &[u16; 2048], v: u64) -> u64
-    requires { ⌜ (v < 2 ^ 63) × ByteTable (now b) ⌝ }
-    ensures { λ r. ⌜ r ≡ rem wordBits v ⌝ }
-{
-    let mut r: u64 = 0;
-    let mut k: u64 = 0;
-    while k < 8 {
-        r = r ^ wide(b[(k * 256 + (v >> (k * 8)) % 256) as usize]);
-        k += 1;
-    }
-    r
+pub(crate) enum Mending {
+    Near(Mended),
+    Refused(u8),
 }
 
 // The word with ones at the places of an entry alone.
@@ -52,51 +35,64 @@ fn mask(e: u64) -> u64
 
 // The places of an entry.
 fn flips_of(e: u64) -> Flips
-    requires { ⌜ T (valid e) ⌝ }
+    requires { ⌜ e < 4096 ⌝ }
     ensures { λ p. ⌜ placesOf p ≡ places e ⌝ }
 {
     let a = e / 64;
     let b = e % 64;
-    if a == 63 {
-        return Flips::Nowhere;
-    }
     if b == 63 {
+        if a == 63 {
+            return Flips::Nowhere;
+        }
         return Flips::One(a);
+    }
+    if a == 63 {
+        return Flips::One(b);
     }
     Flips::Two(a, b)
 }
 
-// The word of a frame, with the places of an entry flipped.
-fn mended(e: u64, frame: u64) -> u64
-    requires { ⌜ e < 4096 ⌝ }
-    ensures { λ w. ⌜ w ≡ bitXor (frame / 2) (mask e) ⌝ }
+// A word of remainder 0 is a code word as it came.
+pub(crate) fn as_received(x: u64, frame: u64) -> Mending
+    ensures { λ m. ⌜ mending m ≡ asReceived x frame ⌝ }
 {
-    (frame / 2) ^ mask(e)
+    Mending::Near(Mended {
+        word: frame / 2,
+        flips: Flips::Nowhere,
+        runs: x / 4096,
+    })
 }
 
-// What a lawful word says that the places of an entry led to.
-fn accepted(e: u64, frame: u64, w: u64) -> Reading
-    requires { ⌜ T (valid e) ⌝ }
-    ensures { λ r. ⌜ answer r ≡ word (dataOf w) (places e) (flag (eqb (frame % 2) (w % 2))) ⌝ }
+// By an entry of the table of corrections, with the run sums of its flips above it.
+fn by_entry(n: u64, x: u64, frame: u64) -> Mending
+    ensures { λ m. ⌜ mending m ≡ byEntry n x frame ⌝ }
 {
-    Reading::Word {
-        data: data_of(w),
-        flips: flips_of(e),
-        pad_wrong: frame % 2 == w % 2,
+    let e = n % 4096;
+    if e == 0 {
+        return Mending::Refused(paper::NO_WORD);
     }
+    Mending::Near(Mended {
+        word: (frame / 2) ^ mask(e),
+        flips: flips_of(e),
+        runs: (x ^ n) / 4096,
+    })
 }
 
-// The frame, read by the entry of its word's remainder.
-pub(crate) fn reading(e: u64, frame: u64) -> Reading
-    requires { ⌜ Entry (rem wordBits (frame / 2)) e ⌝ }
+// A frame whose word has the sums x.
+pub(crate) fn mend_by(c: &[u16; 4096], x: u64, frame: u64) -> Mending
+    ensures { λ m. ⌜ mending m ≡ mendBy (now (c .entry)) x frame ⌝ }
+{
+    if x % 4096 == 0 {
+        return as_received(x, frame);
+    }
+    by_entry(wide(c[(x % 4096) as usize]), x, frame)
+}
+
+// Apart, so that the table is written only where it is needed.
+pub(crate) fn by_own_table(x: u64, frame: u64) -> Reading
+    requires { ⌜ x ≡ sums (wordOf frame) ⌝ }
     ensures { λ r. ⌜ Reads frame (answer r) ⌝ }
 {
-    if e == 0 {
-        return Reading::NoWord;
-    }
-    let w = mended(e, frame);
-    if runs_right(w) {
-        return accepted(e, frame, w);
-    }
-    Reading::RunBroken
+    let c = tables::corrections();
+    said::said(frame, mend_by(&c, x, frame))
 }

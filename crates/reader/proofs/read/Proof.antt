@@ -1,31 +1,45 @@
--- `reader::read` meets its contract: the entry it looks up is that of the remainder.
-use mathlib.Core.Path.{sym, subst}
-use Prim.Native.Nat.{ℕ, _/_, _<_}
+-- `reader::read` meets its contract: where the remainder is 0 no table is needed.
+use mathlib.Core.Path.{_≡_, sym, ap, subst, _∙_}
+use Prim.Native.Nat.{ℕ, _%_, _/_}
 use borrow.Author.Needs.{needs}
-use Rattle.poly.proofs.Division.{rem-lt}
-use Rattle.bch.specs.Corrections.{Entry}
+use Rattle.reader.specs.Reads.{Reads}
+use Rattle.reader.specs.ByTables.{asReceived, saidBy}
+use Rattle.reader.proofs.ByTables.{read-received}
 use Rattle.reader.proofs.read.Statement.{statement}
 use Rattle.reader.proofs.read.Tie as tie
 
-corrections-requires : tie.Need-corrections-requires
-corrections-requires c κs = search needs
+sums-of-requires : tie.Need-sums-of-requires
+sums-of-requires c κs = search needs
 
-remainder-requires : tie.Need-remainder-requires
-remainder-requires c κs = search needs
+as-received-requires : tie.Need-as-received-requires
+as-received-requires c κs = search needs
 
-look-requires : tie.Need-look-requires
-look-requires c κs = (
-  subst (λ (r : ℕ). r < 4096) (sym (c .remainder .ensures)) (rem-lt 63 (c .before .before .before .args .frame / 2)),
-  c .before .before .corrections .ensures,
-)
-
-reading-requires : tie.Need-reading-requires
-reading-requires c κs = subst (λ (r : ℕ). Entry r (c .look .result)) (c .before .remainder .ensures) (c .look .ensures)
+said-requires : tie.Need-said-requires
+said-requires c κs = search needs
 
 returns : tie.Need-returns
-returns c = search needs
+returns c =
+    let t = c .before .before in
+    let s = t .before .sums-of in
+    let a = t .before .before in
+    let f = a .args .frame in
+    subst (Reads f)
+    (sym (c .said .ensures ∙ ap (saidBy f) (c .before .as-received .ensures ∙ ap (λ (x : ℕ). asReceived x f) (s .ensures))))
+    (read-received f (a .fits .frame .fits) (ap (λ (x : ℕ). x % 4096) (sym (s .ensures)) ∙ t .if1 .taken))
+
+by-own-table-requires : tie.Need-by-own-table-requires
+by-own-table-requires c κs = search needs
+
+returns-2 : tie.Need-returns-2
+returns-2 c = search needs
 
 pub read-spec : {M : Type 1} → statement M
 read-spec =
     tie.close
-    (tie.spec corrections-requires remainder-requires look-requires reading-requires returns)
+    (tie.spec
+    sums-of-requires
+    as-received-requires
+    said-requires
+    returns
+    by-own-table-requires
+    returns-2)

@@ -1,9 +1,9 @@
--- `reader::word::data_of` meets its contract.
+-- `reader::said::data_in` meets its contract.
 use mathlib.Core.Path.{refl}
 use borrow.Author.Needs.{needs}
 use Rattle.frame.specs.Word.{dataOf}
-use Rattle.reader.proofs.word.data_of.Statement.{statement}
-use Rattle.reader.proofs.word.data_of.Tie as tie
+use Rattle.reader.proofs.said.data_in.Statement.{statement}
+use Rattle.reader.proofs.said.data_in.Tie as tie
 
 mul-result : tie.Need-mul-result
 mul-result c = search needs
@@ -21,5 +21,5 @@ returns : tie.Need-returns
 unfolding dataOf
 returns c = refl
 
-pub data-of-spec : {M : Type 1} → statement M
-data-of-spec = tie.close (tie.spec mul-result mul-result-2 add-result add-result-2 returns)
+pub data-in-spec : {M : Type 1} → statement M
+data-in-spec = tie.close (tie.spec mul-result mul-result-2 add-result add-result-2 returns)

@@ -1,0 +1,138 @@
+-- Reading by lent tables that have their rules is reading.
+-- ┌─────────────────┬──────────────────────────────────────────────────────────────┐
+-- │ sums-by         │ the sum of a frame's eight entries is the sums of its word   │
+-- │ read-received   │ a frame of remainder 0                                       │
+-- │ read-mended     │ any frame, its sums known                                    │
+-- │ by-the-tables   │ the claim of specs/Claims.antt by this name                  │
+-- │ answers-by      │ an answer to each frame of a list                            │
+-- └─────────────────┴──────────────────────────────────────────────────────────────┘
+use mathlib.Core.Path.{_≡_, refl, sym, ap, ap₂, _∙_, subst}
+use mathlib.Core.Bool.{Bool, true, false, cond}
+use mathlib.Core.List.{List, [], map}
+use Prim.Native.Nat.{ℕ, zero, suc, _+_, _*_, _/_, _%_, _^_, _<_, _≤_}
+use native.Mathlib.Decide.{ℕ-discrete}
+use native.Mathlib.Nat.{div-one, mod-one, mod-eq-of-lt, mod-lt}
+use native.Mathlib.Numerals.{add-one}
+use native.Mathlib.Omega.{arith}
+use borrow.Author.Tests.{eq-eqb, ne-eqb, eqb-true, eqb-false}
+use lib.Bits.{bitXor, xor-zero-r, xor-shr}
+use lib.Dec.{eqb, lit<}
+use lib.ListN.{length, getD}
+use lib.Pow.{pow-pos}
+use Rattle.paper.specs.Answer.{Answer, gives, refused}
+use Rattle.laws.specs.Lent.{Each}
+use Rattle.laws.proofs.Writing.{each-made}
+use Rattle.poly.specs.Poly.{rem}
+use Rattle.poly.proofs.Division.{rem-lt, is-divisible}
+use Rattle.bch.specs.Code.{position, differences}
+use Rattle.bch.specs.Corrections.{mask, places, Entry}
+use Rattle.frame.specs.Word.{wordOf, padOf, RunsRight, dataOf}
+use Rattle.tables.specs.Sums.{runSums, sums}
+use Rattle.tables.specs.Tables.{entryOf, Mends, ByteSums}
+use Rattle.tables.proofs.Sums.{all-right, runs-xor, sums-low, sums-high}
+use Rattle.tables.proofs.Tables.{frameSums, frame-sums-xor, mends-entry}
+use Rattle.tables.proofs.Grown.{byte-turn}
+use Rattle.reader.specs.Answers.{Found, flag}
+use Rattle.reader.specs.Reads.{Reads}
+use Rattle.reader.specs.ByTables.{byteOf, sumsBy, Mended, asReceived, byEntry, mendBy, lawfulBy, saidBy, readBy}
+use Rattle.reader.specs.Claims.{ByTheTables, Numbers}
+use Rattle.reader.proofs.Demands.{mended, no-word, a-word, run-broken, received, received-broken}
+
+sums-none : sums 0 ≡ 0
+unfolding sums runSums rem
+sums-none = refl
+
+module _ (b : List ℕ) (t : ByteSums b) where
+  first-bytes : (n f : ℕ) → n ≤ 8 → sumsBy b n f ≡ frameSums (f % 2 ^ (n * 8))
+  unfolding sumsBy
+  first-bytes zero f h = sym (ap frameSums (mod-one f) ∙ sums-none)
+  first-bytes (suc n) f h =
+      ap₂ bitXor (first-bytes n f (omega arith)) (t .right n (byteOf f n) (omega arith) (mod-lt (f / 2 ^ (n * 8)) (lit< tt)))
+      ∙ byte-turn frameSums frame-sums-xor n f
+      ∙ ap (λ (k : ℕ). frameSums (f % 2 ^ (k * 8))) (add-one n)
+
+  pub sums-by : (f : ℕ) → f < 2 ^ 64 → sumsBy b 8 f ≡ sums (wordOf f)
+  sums-by f h = first-bytes 8 f (omega arith) ∙ ap frameSums (mod-eq-of-lt h)
+
+-- position 62 is the last of a word
+last : (f w : ℕ) {d : ℕ} {ps : List ℕ}
+    → Reads f (gives (record { «data» = d; places = ps; pad = flag (eqb (padOf f) (position w 62)) }))
+    → Reads f (gives (record { «data» = d; places = ps; pad = flag (eqb (padOf f) (w % 2)) }))
+last f w {d} {ps} =
+    subst (λ (v : ℕ). Reads f (gives (record { «data» = d; places = ps; pad = flag (eqb (padOf f) (v % 2)) }))) (div-one w)
+
+-- a mended word, by whether its run sums are right
+said : (f : ℕ) (m : Mended)
+    → (m .runs ≡ 7 → Reads f (gives (record { «data» = dataOf (m .sent); places = m .places; pad = flag (eqb (padOf f) (m .sent % 2)) })))
+    → ((m .runs ≡ 7 → ⊥) → Reads f (refused 14)) → Reads f (lawfulBy f m)
+said f m p q = by (ℕ-discrete (m .runs) 7)
+  where
+    R : Bool → Type 0
+    R t =
+        Reads f
+        (cond t (gives (record { «data» = dataOf (m .sent); places = m .places; pad = flag (eqb (padOf f) (m .sent % 2)) })) (refused 14))
+
+    by : Dec (m .runs ≡ 7) → Reads f (lawfulBy f m)
+    by (yes e) = subst R (sym (eq-eqb (m .runs) 7 e)) (p e)
+    by (no n) = subst R (sym (ne-eqb (m .runs) 7 n)) (q n)
+
+module _ (f : ℕ) (h : f < 2 ^ 64) where
+  pub read-received : sums (wordOf f) % 4096 ≡ 0 → Reads f (saidBy f (asReceived (sums (wordOf f)) f))
+  read-received z =
+      said f (record { sent = wordOf f; places = []; runs = sums (wordOf f) / 4096 })
+      (λ e. last f (wordOf f) (received f h r (all-right (wordOf f) .1 (sym (sums-high (wordOf f)) ∙ e))))
+      (λ n. received-broken f h r (λ t. n (sums-high (wordOf f) ∙ all-right (wordOf f) .0 t)))
+    where
+      r : rem 63 (wordOf f) ≡ 0
+      r = sym (sums-low (wordOf f)) ∙ z
+
+  read-entry : (n : ℕ) → Entry (rem 63 (wordOf f)) (entryOf n) → n / 4096 ≡ runSums (mask (entryOf n))
+      → Reads f (saidBy f (byEntry n (sums (wordOf f)) f))
+  read-entry n t r = by (ℕ-discrete (entryOf n) 0)
+    where
+      e : ℕ
+      e = entryOf n
+
+      near : Mended
+      near = record { sent = mended f e; places = places e; runs = bitXor (sums (wordOf f)) n / 4096 }
+
+      R : Bool → Type 0
+      R b = Reads f (saidBy f (cond b (refused 13) (gives near)))
+
+      runs : bitXor (sums (wordOf f)) n / 4096 ≡ runSums (mended f e)
+      runs = xor-shr (sums (wordOf f)) n 12 ∙ ap₂ bitXor (sums-high (wordOf f)) r ∙ sym (runs-xor (wordOf f) (mask e))
+
+      by : Dec (e ≡ 0) → Reads f (saidBy f (byEntry n (sums (wordOf f)) f))
+      by (yes z) = subst R (sym (eq-eqb e 0 z)) (no-word f e h t z)
+      by (no z) =
+          subst R (sym (ne-eqb e 0 z))
+          (said f near
+          (λ q. last f (mended f e) (a-word f e h t z (all-right (mended f e) .1 (sym runs ∙ q))))
+          (λ q. run-broken f e h t z (λ s. q (runs ∙ all-right (mended f e) .0 s))))
+
+  pub read-mended : (c : List ℕ) → Mends c → Reads f (saidBy f (mendBy c (sums (wordOf f)) f))
+  read-mended c m = by (ℕ-discrete (sums (wordOf f) % 4096) 0)
+    where
+      n : ℕ
+      n = getD c (sums (wordOf f) % 4096) 0
+
+      R : Bool → Type 0
+      R b = Reads f (saidBy f (cond b (asReceived (sums (wordOf f)) f) (byEntry n (sums (wordOf f)) f)))
+
+      i : sums (wordOf f) % 4096 < 4096
+      i = mod-lt (sums (wordOf f)) (lit< tt)
+
+      by : Dec (sums (wordOf f) % 4096 ≡ 0) → Reads f (saidBy f (mendBy c (sums (wordOf f)) f))
+      by (yes z) = subst R (sym (eq-eqb (sums (wordOf f) % 4096) 0 z)) (read-received z)
+      by (no z) =
+          subst R (sym (ne-eqb (sums (wordOf f) % 4096) 0 z))
+          (read-entry n
+          (subst (λ (r : ℕ). Entry r (entryOf n)) (sums-low (wordOf f)) (mends-entry m (sums (wordOf f) % 4096) i))
+          (m .runs (sums (wordOf f) % 4096) i))
+
+pub by-the-tables : ByTheTables
+unfolding readBy
+by-the-tables c b m t f h = subst (λ (x : ℕ). Reads f (saidBy f (mendBy c x f))) (sym (sums-by b t f h)) (read-mended f h c m)
+
+pub answers-by : (c b : List ℕ) → Mends c → ByteSums b → (fs : List ℕ) → Numbers fs → Each Reads fs (map (readBy c b) fs)
+answers-by c b m t fs n = each-made (readBy c b) fs 0 (λ i h. by-the-tables c b m t (getD fs i 0) (n i h))

@@ -1,0 +1,49 @@
+-- `reader::bytes::read_all` meets its contract, by the rules of both tables.
+use mathlib.Core.List.{map}
+use borrow.Author.Needs.{needs}
+use Rattle.octets.specs.Octets.{numbersOf}
+use Rattle.octets.proofs.Joined.{numbers-lt}
+use Rattle.reader.specs.ByTables.{readBy}
+use Rattle.reader.proofs.ByTables.{answers-by}
+use Rattle.reader.proofs.bytes.read_all.Statement.{statement}
+use Rattle.reader.proofs.bytes.read_all.Tie as tie
+
+corrections-requires : tie.Need-corrections-requires
+corrections-requires c κs = search needs
+
+byte-sums-requires : tie.Need-byte-sums-requires
+byte-sums-requires c κs = search needs
+
+read-each-requires : tie.Need-read-each-requires
+read-each-requires c κs = search needs
+
+same-length : tie.Need-same-length
+same-length c = search needs
+
+same-length-2 : tie.Need-same-length-2
+same-length-2 c = search needs
+
+returns : tie.Need-returns
+returns c =
+    let e = c .before .before .before .before in
+    let s = e .before .before .before .before .before in
+    let t = s .before .corrections in
+    let k = s .before .before .before .before in
+    let fs = k .before .args .frames .now in
+    record {
+      ys = map (readBy (t .result) (s .byte-sums .result)) (numbersOf fs);
+      each = answers-by (t .result) (s .byte-sums .result) (t .ensures) (s .byte-sums .ensures) (numbersOf fs)
+          (numbers-lt fs (λ i. k .shared-slice-known .given i .fits));
+      all = (e .read-each .ensures .0, (e .read-each .ensures .1, tt));
+    }
+
+pub read-all-spec : {M : Type 1} → statement M
+read-all-spec =
+    tie.close
+    (tie.spec
+    corrections-requires
+    byte-sums-requires
+    read-each-requires
+    same-length
+    same-length-2
+    returns)

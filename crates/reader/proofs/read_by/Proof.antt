@@ -1,0 +1,27 @@
+-- `reader::read_by` meets its contract: mended, then said.
+use mathlib.Core.Path.{_≡_, ap, ap₂, _∙_}
+use Prim.Native.Nat.{ℕ}
+use borrow.Author.Needs.{needs}
+use Rattle.paper.specs.Answer.{Answer}
+use Rattle.reader.specs.ByTables.{Mended, mendBy, saidBy, readBy}
+use Rattle.reader.proofs.read_by.Statement.{statement}
+use Rattle.reader.proofs.read_by.Tie as tie
+
+sums-by-requires : tie.Need-sums-by-requires
+sums-by-requires c κs = search needs
+
+mend-by-requires : tie.Need-mend-by-requires
+mend-by-requires c κs = search needs
+
+said-requires : tie.Need-said-requires
+said-requires c κs = search needs
+
+returns : tie.Need-returns
+unfolding readBy
+returns c =
+    let a = c .before .before .before .args in
+    c .said .ensures
+    ∙ ap (saidBy (a .frame)) (c .before .mend-by .ensures ∙ ap (λ (x : ℕ). mendBy (a .corrections .now) x (a .frame)) (c .before .before .sums-by .ensures))
+
+pub read-by-spec : {M : Type 1} → statement M
+read-by-spec = tie.close (tie.spec sums-by-requires mend-by-requires said-requires returns)

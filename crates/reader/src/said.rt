@@ -1,0 +1,45 @@
+// What a mended word says: its run bits, then its data.
+ghost use mathlib.Core.Path.{_≡_};
+ghost use Rattle.frame.specs.Word.{dataOf};
+ghost use Rattle.reader.specs.Answers.{answer};
+ghost use Rattle.reader.specs.ByTables.{saidBy, lawfulBy};
+ghost use Rattle.reader.specs.Parts.{mended, mending};
+use crate::Reading;
+use crate::Word;
+use crate::mend::Mended;
+use crate::mend::Mending;
+
+// The run sums of a word whose three run bits are right.
+const ALL_RIGHT: u64 = 7;
+
+fn data_in(w: u64) -> u64
+    ensures { λ r. ⌜ r ≡ dataOf w ⌝ }
+{
+    w / 0x8000_0000_0000 % 0x1_0000 * 0x1_0000_0000
+        + w / 0x4000_0000 % 0x1_0000 * 0x1_0000
+        + w / 0x2000 % 0x1_0000
+}
+
+// A code word: lawful, or 14.
+fn lawful(frame: u64, m: Mended) -> Reading
+    ensures { λ r. ⌜ answer r ≡ lawfulBy frame (mended m) ⌝ }
+{
+    if m.runs == ALL_RIGHT {
+        let flips = m.flips;
+        return Reading::Lawful(Word {
+            data: data_in(m.word),
+            flips,
+            pad_wrong: frame % 2 == m.word % 2,
+        });
+    }
+    Reading::Refused(paper::RUN_BROKEN)
+}
+
+pub(crate) fn said(frame: u64, m: Mending) -> Reading
+    ensures { λ r. ⌜ answer r ≡ saidBy frame (mending m) ⌝ }
+{
+    match m {
+        Mending::Near(m) => lawful(frame, m),
+        Mending::Refused(n) => Reading::Refused(n),
+    }
+}

@@ -1,3 +1,3 @@
-pub mod Answered
+pub mod Turns
 pub mod Scan
 pub mod OneAnswer

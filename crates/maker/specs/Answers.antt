@@ -1,20 +1,9 @@
--- The numbers of the answers.
--- ┌──────────┬─────────────────────────────────────────────────────────┐
--- │ making m │ the refusal of a `Making`, 0 where it is a frame        │
--- │ listed l │ the refusal of a list call's answer, 0 where it is done │
--- └──────────┴─────────────────────────────────────────────────────────┘
+-- The answer that a `Making` is: the frame, or the refusal.
 use Prim.Native.Nat.{ℕ}
-use Rattle.paper.specs.Numbers.{outside, unfit}
+use Rattle.paper.specs.Answer.{Answer, gives, refused}
 use Rattle.maker.specs.declared.Making.{Making}
-use Rattle.maker.specs.declared.Making.the-variants.{Frame, TooLarge}
-use Rattle.maker.specs.declared.Listed.{Listed}
-use Rattle.maker.specs.declared.Listed.the-variants.{Done, Short, DataTooLarge}
+use Rattle.maker.specs.declared.Making.the-variants.{Frame, Refused}
 
-abbrev pub making : Making → ℕ
-making (Frame f) = 0
-making TooLarge = outside
-
-abbrev pub listed : Listed → ℕ
-listed Done = 0
-listed Short = unfit
-listed DataTooLarge = outside
+abbrev pub answer : Making → Answer ℕ
+answer (Frame f) = gives f
+answer (Refused n) = refused n

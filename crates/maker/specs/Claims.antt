@@ -7,20 +7,20 @@
 use mathlib.Core.Path.{_≡_}
 use mathlib.Core.List.{List}
 use Prim.Native.Nat.{ℕ}
-use Rattle.maker.specs.Answers.{listed}
+use Rattle.paper.specs.Answer.{Answer}
+use Rattle.laws.specs.Lent.{Lent}
+use Rattle.maker.specs.Answers.{answer}
 use Rattle.maker.specs.Makes.{Makes}
-use Rattle.maker.specs.Lists.{MakesList}
-use Rattle.maker.specs.Bytes.{MakesBytes}
+use Rattle.maker.specs.Lists.{MakesList, MakesBytes}
 use Rattle.maker.specs.declared.Making.{Making}
-use Rattle.maker.specs.declared.Listed.{Listed}
 
 abbrev pub OneMaking : Type 0
-OneMaking = (d : ℕ) → (m n : Making) → Makes d m → Makes d n → m ≡ n
+OneMaking = (d : ℕ) → (m n : Making) → Makes d (answer m) → Makes d (answer n) → m ≡ n
 
 abbrev pub OneMadeList : Type 0
-OneMadeList = (ds fs₀ fs gs : List ℕ) (r s : Listed) → MakesList ds fs₀ (listed r) fs → MakesList ds fs₀ (listed s) gs
-    → (r ≡ s) × (fs ≡ gs)
+OneMadeList = (ds : List ℕ) (o o′ : Lent) (a b : Answer Unit) → o .was ≡ o′ .was → MakesList ds o a → MakesList ds o′ b
+    → (a ≡ b) × (o .is ≡ o′ .is)
 
 abbrev pub OneMadeBytes : Type 0
-OneMadeBytes = (ds fs₀ fs gs : List ℕ) (r s : Listed) → MakesBytes ds fs₀ (listed r) fs → MakesBytes ds fs₀ (listed s) gs
-    → (r ≡ s) × (fs ≡ gs)
+OneMadeBytes = (ds : List ℕ) (o o′ : Lent) (a b : Answer Unit) → o .was ≡ o′ .was → MakesBytes ds o a → MakesBytes ds o′ b
+    → (a ≡ b) × (o .is ≡ o′ .is)

@@ -1,5 +1,4 @@
 pub mod Answers
 pub mod Makes
 pub mod Lists
-pub mod Bytes
 pub mod Claims

@@ -1,17 +1,17 @@
 // The list form on bytes: a number is eight bytes, highest first.
 ghost use mathlib.Core.Path.{_≡_};
 ghost use mathlib.Core.Bool.{false};
-ghost use Prim.Native.Nat.{_/_, _≤_};
+ghost use mathlib.Core.List.{[], _∷_};
+ghost use Prim.Native.Nat.{_≤_};
 ghost use lib.ListN.{length};
+ghost use Rattle.paper.specs.Answer.{listed};
+ghost use Rattle.laws.specs.Lent.{lent, Written};
 ghost use Rattle.octets.specs.Octets.{numbersOf};
-ghost use Rattle.octets.specs.Lent.{WrittenBytes};
 ghost use Rattle.frame.specs.Word.{FrameOf};
-ghost use Rattle.maker.specs.Answers.{listed};
-ghost use Rattle.maker.specs.Lists.{anyTooLarge};
-ghost use Rattle.maker.specs.Bytes.{MakesBytes};
-use crate::Listed;
+ghost use Rattle.maker.specs.Lists.{anyTooLarge, inBytes, MakesBytes};
 use crate::layout::DATA_END;
 use crate::layout::frame_of;
+use paper::Listed;
 
 fn any_large(data: &[u8]) -> bool
     ensures { λ r. ⌜ r ≡ anyTooLarge (numbersOf (now («data» .entry))) ⌝ }
@@ -28,7 +28,7 @@ fn any_large(data: &[u8]) -> bool
 
 fn make_each(data: &[u8], frames: &mut [u8])
     requires { ⌜ (length (now «data») ≤ length (now frames)) × (anyTooLarge (numbersOf (now «data»)) ≡ false) ⌝ }
-    ensures { λ _. ⌜ WrittenBytes FrameOf (numbersOf (now («data» .entry))) (now (frames .entry)) (now (frames .exit)) (length (now («data» .entry)) / 8) ⌝ }
+    ensures { λ _. ⌜ Written FrameOf (numbersOf (now («data» .entry))) (inBytes (lent frames) ∷ []) ⌝ }
 {
     let mut i = 0;
     while i < data.len() / 8 {
@@ -39,19 +39,19 @@ fn make_each(data: &[u8], frames: &mut [u8])
 
 // The frames of data words, at the front of a lent output.
 pub fn make_bytes(data: &[u8], frames: &mut [u8]) -> Listed
-    ensures { λ r. ⌜ MakesBytes (now («data» .entry)) (now (frames .entry)) (listed r) (now (frames .exit)) ⌝ }
+    ensures { λ r. ⌜ MakesBytes (now («data» .entry)) (lent frames) (listed r) ⌝ }
 {
     if data.len() % 8 != 0 {
-        return Listed::Short;
+        return Listed::Refused(paper::UNFIT);
     }
     if frames.len() % 8 != 0 {
-        return Listed::Short;
+        return Listed::Refused(paper::UNFIT);
     }
     if frames.len() < data.len() {
-        return Listed::Short;
+        return Listed::Refused(paper::UNFIT);
     }
     if any_large(data) {
-        return Listed::DataTooLarge;
+        return Listed::Refused(paper::OUTSIDE);
     }
     make_each(data, frames);
     Listed::Done

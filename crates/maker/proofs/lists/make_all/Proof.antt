@@ -1,24 +1,22 @@
 -- `maker::lists::make_all` meets its contract: after i turns the first i places are written.
-use mathlib.Core.Path.{_≡_, subst}
-use Prim.Native.Nat.{ℕ, _-_, _≤_}
+use mathlib.Core.Path.{refl}
+use Prim.Native.Nat.{_-_, _≤_}
 use native.Mathlib.Omega.{arith}
 use borrow.Author.Needs.{needs}
 use lib.ListN.{length}
-use Rattle.laws.specs.Lent.{Written}
-use Rattle.laws.proofs.Writing.{written-none, written-more}
-use Rattle.frame.specs.Word.{FrameOf}
+use Rattle.maker.proofs.Turns.{MadeBy, made-none, made-turn, made-end}
 use Rattle.maker.proofs.Scan.{none-large}
 use Rattle.maker.proofs.lists.make_all.Statement.{statement}
 use Rattle.maker.proofs.lists.make_all.Tie as tie
 
 abbrev Inv-loop : tie.InvT-loop
-Inv-loop ds fs₀ i₀ fs i = (i ≤ length ds) × (length fs ≡ length fs₀) × Written FrameOf ds fs₀ fs i
+Inv-loop ds fs₀ i₀ fs i = (i ≤ length ds) × MadeBy (λ fs. fs) ds fs₀ i fs
 
 abbrev μ-loop : tie.MeasureT-loop
 μ-loop ds fs₀ i₀ fs i = length ds - i
 
 loop-holds : tie.Need-loop-holds Inv-loop μ-loop
-loop-holds c = let w = written-none {R = FrameOf} _ _ in (omega arith, w .size, w)
+loop-holds c = (omega arith, made-none (λ fs. fs) refl)
 
 mul-frame-of : tie.Need-mul-frame-of Inv-loop μ-loop
 mul-frame-of c = search needs
@@ -44,18 +42,13 @@ loop-less : tie.Need-loop-less Inv-loop μ-loop
 loop-less c = omega arith
 
 loop-again : tie.Need-loop-again Inv-loop μ-loop
-loop-again c =
-    let w = written-more (c .frame-of .result) (c .before .before .before .loop .inv .2) (c .frame-of .ensures) in
-    (omega arith, w .size, w)
+loop-again c = (omega arith, made-turn (c .before .before .before .loop .inv .1) (c .before .before .loop-test .taken) (c .frame-of .ensures))
 
 same-length : tie.Need-same-length Inv-loop μ-loop
-same-length c = c .before .loop .inv .1
+same-length c = c .before .loop .inv .1 .size
 
 returns : tie.Need-returns Inv-loop μ-loop
-returns c =
-    let s = c .before .before .before .before in
-    let e : c .before .loop .i ≡ length (s .args .«data» .now) = omega arith in
-    subst (λ (n : ℕ). Written FrameOf (s .args .«data» .now) (s .args .frames .now) (c .before .loop .frames) n) e (c .before .loop .inv .2)
+returns c = made-end (c .before .loop .inv .1) (c .loop-test .left)
 
 pub make-all-spec : {M : Type 1} → statement M
 make-all-spec =

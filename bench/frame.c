@@ -6,11 +6,11 @@
 
 #define STORE 8192
 
-uint8_t measured_read(uint64_t frame);
-uint8_t measured_make_list(const uint64_t *data, size_t data_len, uint64_t *frames, size_t frames_len);
-uint8_t measured_read_list(const uint64_t *frames, size_t frames_len, uint64_t *data, size_t data_len, uint8_t *verdicts,
+uint8_t bench_read(uint64_t frame);
+uint8_t bench_make_list(const uint64_t *data, size_t data_len, uint64_t *frames, size_t frames_len);
+uint8_t bench_read_list(const uint64_t *frames, size_t frames_len, uint64_t *data, size_t data_len, uint8_t *verdicts,
                             size_t verdicts_len);
-uint8_t measured_read_list_pads(const uint64_t *frames, size_t frames_len, uint64_t *data, size_t data_len, uint8_t *verdicts,
+uint8_t bench_read_list_pads(const uint64_t *frames, size_t frames_len, uint64_t *data, size_t data_len, uint8_t *verdicts,
                                  size_t verdicts_len, uint8_t *pads, size_t pads_len);
 
 uint64_t lks_frames_make(const uint8_t *data, size_t data_len, uint8_t *frames, size_t frames_len);
@@ -121,24 +121,24 @@ static void work(const char *call, int ours, size_t n)
 {
     if (!strcmp(call, "make")) {
         if (ours)
-            measured_make_list(data, n, out, STORE);
+            bench_make_list(data, n, out, STORE);
         else
             c_make_list(data, n, out);
     } else if (!strcmp(call, "read")) {
         if (ours)
-            measured_read_list(frames, n, out, STORE, verdicts, STORE);
+            bench_read_list(frames, n, out, STORE, verdicts, STORE);
         else
             c_read_list(frames, n, out, verdicts);
     } else if (!strcmp(call, "pads")) {
         if (ours)
-            measured_read_list_pads(frames, n, out, STORE, verdicts, STORE, pads, STORE);
+            bench_read_list_pads(frames, n, out, STORE, verdicts, STORE, pads, STORE);
         else
             c_read_list_pads(frames, n, out, verdicts, pads);
     } else if (!strcmp(call, "bytes-make") || !strcmp(call, "bytes-read")) {
         on_bytes(ours, !strcmp(call, "bytes-make"), n);
     } else {
         for (size_t i = 0; i < n; i++)
-            verdicts[i] = ours ? measured_read(frames[i]) : c_read(frames[i], &out[i], &pads[i]);
+            verdicts[i] = ours ? bench_read(frames[i]) : c_read(frames[i], &out[i], &pads[i]);
     }
 }
 

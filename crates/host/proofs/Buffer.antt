@@ -12,19 +12,20 @@ use borrow.Author.Tests.{lt-ltb}
 use lib.Bits.{bitXor}
 use lib.ListN.{length, drop, set, length-drop}
 use lib.Seq.{drop-drop}
-use Rattle.octets.specs.Octets.{eight, stored}
+use Rattle.octets.specs.Octets.{eight, inBytes, stored}
 use Rattle.bch.proofs.Ones.{ups, differ-ups, Rising, ups-rising}
 use Rattle.frame.specs.Word.{wordOf}
 use Rattle.reader.specs.Answers.{placesOf, answer}
 use Rattle.reader.specs.Reads.{Reads}
 use Rattle.reader.specs.declared.Flips.{Flips}
 use Rattle.reader.specs.declared.Flips.the-variants.{Nowhere, One, Two}
-use Rattle.reader.specs.declared.Reading.the-variants.{Word}
+use Rattle.reader.specs.declared.Word.{Word}
+use Rattle.reader.specs.declared.Reading.the-variants.{Lawful}
 use Rattle.host.specs.Entries.{Small}
 
 four-stores : (d : ℕ) (r : List ℕ) → 4 ≤ length r → (n a b p : ℕ)
     → set (set (set (set (eight d ++ r) 8 n) 9 a) 10 b) 11 p ≡ eight d ++ (n ∷ a ∷ b ∷ p ∷ drop 4 r)
-unfolding eight
+unfolding eight inBytes
 four-stores d [] h n a b p = absurd (omega arith)
 four-stores d (x0 ∷ []) h n a b p = absurd (omega arith)
 four-stores d (x0 ∷ x1 ∷ []) h n a b p = absurd (omega arith)
@@ -44,7 +45,7 @@ rising Nowhere r = tt
 rising (One a) r = omega (arith, r .1)
 rising (Two a b) r = (omega (arith, r .1), omega (arith, r .2 .1))
 
-pub small : (f d : ℕ) (p : Flips) (w : Bool) → Reads f (answer (Word d p w)) → Small p
-small f d p w r =
-    let e : ups 63 (bitXor (r .sent) (wordOf f)) ≡ placesOf p = sym (differ-ups 63 (r .sent) (wordOf f)) ∙ r .flips in
-    rising p (subst (Rising 0) e (ups-rising 63 (bitXor (r .sent) (wordOf f)) (omega arith)))
+pub small : (f : ℕ) (w : Word) → Reads f (answer (Lawful w)) → Small (w .flips)
+small f w r =
+    let e : ups 63 (bitXor (r .sent) (wordOf f)) ≡ placesOf (w .flips) = sym (differ-ups 63 (r .sent) (wordOf f)) ∙ r .flips in
+    rising (w .flips) (subst (Rising 0) e (ups-rising 63 (bitXor (r .sent) (wordOf f)) (omega arith)))

@@ -3,19 +3,33 @@
 -- │ OneCode     │ no second number meets the contract of `lks_frame_make`          │
 -- │ NotMistaken │ a frame it returns is no refusal: it is at least 2^47            │
 -- │ OneOut      │ no second number or buffer meets that of `lks_frame_read`        │
+-- │ OneMade     │ nor a second number or list that of `lks_frames_make`            │
+-- │ OneRead     │ nor that of `lks_frames_read`                                    │
 -- └─────────────┴──────────────────────────────────────────────────────────────────┘
 use mathlib.Core.Path.{_≡_}
 use mathlib.Core.List.{List}
 use Prim.Native.Nat.{ℕ, _^_, _<_, _≤_}
-use Rattle.maker.specs.declared.Making.the-variants.{Frame}
+use Rattle.paper.specs.Answer.{gives, numbered}
+use Rattle.laws.specs.Bits.{Octets}
+use Rattle.laws.specs.Lent.{Lent}
+use Rattle.maker.specs.Lists.{MakesBytes}
+use Rattle.reader.specs.Lists.{ReadsBytes}
 use Rattle.host.specs.Entries.{MakesCode, ReadsOut}
 
 abbrev pub OneCode : Type 0
 OneCode = (d m n : ℕ) → MakesCode d m → MakesCode d n → m ≡ n
 
 abbrev pub NotMistaken : Type 0
-NotMistaken = (d f n : ℕ) (p : MakesCode d n) → p .made ≡ Frame f → 2 ^ 47 ≤ n
+NotMistaken = (d f n : ℕ) (p : MakesCode d n) → p .made ≡ gives f → 2 ^ 47 ≤ n
 
 abbrev pub OneOut : Type 0
-OneOut =
-    (f : ℕ) (a₀ : List ℕ) (m n : ℕ) (a b : List ℕ) → f < 2 ^ 64 → ReadsOut f a₀ m a → ReadsOut f a₀ n b → (m ≡ n) × (a ≡ b)
+OneOut = (f : ℕ) (o o′ : Lent) (m n : ℕ) → f < 2 ^ 64 → o .was ≡ o′ .was → ReadsOut f o m → ReadsOut f o′ n
+    → (m ≡ n) × (o .is ≡ o′ .is)
+
+abbrev pub OneMade : Type 0
+OneMade = (ds : List ℕ) (o o′ : Lent) (m n : ℕ) → o .was ≡ o′ .was → MakesBytes ds o (numbered m) → MakesBytes ds o′ (numbered n)
+    → (m ≡ n) × (o .is ≡ o′ .is)
+
+abbrev pub OneRead : Type 0
+OneRead = (fs : List ℕ) (d d′ v v′ : Lent) (m n : ℕ) → Octets fs → d .was ≡ d′ .was → v .was ≡ v′ .was
+    → ReadsBytes fs d v (numbered m) → ReadsBytes fs d′ v′ (numbered n) → (m ≡ n) × (d .is ≡ d′ .is) × (v .is ≡ v′ .is)

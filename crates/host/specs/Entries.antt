@@ -1,40 +1,40 @@
 -- What the entries towards C owe, in the definitions of the crates `maker` and `reader`.
 -- ┌────────────────────┬───────────────────────────────────────────────────────────┐
--- │ codeOf m           │ the number that C gets of a `Making`: the frame, or 11    │
+-- │ codeOf a           │ the number that C gets of the maker's answer: the frame,  │
+-- │                    │ or the refusal                                            │
 -- │ MakesCode d n      │ `lks_frame_make`: the number of what the maker owes       │
 -- │ Small p            │ the places fit a byte                                     │
 -- │ answerBytes        │ the bytes of an answer                                    │
 -- │ noPlace            │ 255, in a byte for a place where there is none            │
--- │ laidOut d ps pad a │ the answer buffer a with a reading in its first twelve    │
+-- │ laidOut r a        │ the answer buffer a with a reading in its first twelve    │
 -- │                    │ bytes: the data, highest byte first; how many flips;      │
 -- │                    │ their places, the lower first; the pad flag               │
--- │ outcome b          │ what is returned of an answer: 0, or the refusal          │
 -- │ laid b a           │ the buffer after an answer: as it was where refused       │
--- │ Answered           │ the outcome and the buffer of the answer the reader owes  │
--- │ ReadsOut f a₀ n a  │ `lks_frame_read`: 12 for a buffer under twelve bytes,     │
--- │                    │ else the outcome of the answer that the reader owes       │
+-- │ Answered           │ the number and the buffer of the answer the reader owes   │
+-- │ ReadsOut f o n     │ `lks_frame_read`: 12 for a buffer under twelve bytes,     │
+-- │                    │ else the number of the answer that the reader owes        │
 -- └────────────────────┴───────────────────────────────────────────────────────────┘
 use mathlib.Core.Path.{_≡_}
 use mathlib.Core.List.{List, _∷_, _++_}
 use mathlib.Core.Logic.{_⊎_}
 use Prim.Native.Nat.{ℕ, _<_, _≤_}
 use lib.ListN.{length, getD, drop}
-use Rattle.paper.specs.Numbers.{outside, unfit}
+use Rattle.paper.specs.Numbers.{unfit}
+use Rattle.paper.specs.Answer.{Answer, gives, refused, numberOf}
+use Rattle.laws.specs.Lent.{Lent}
 use Rattle.octets.specs.Octets.{eight}
-use Rattle.reader.specs.Answers.{Answer, word, refused}
+use Rattle.reader.specs.Answers.{Found}
 use Rattle.reader.specs.Reads.{Reads}
 use Rattle.maker.specs.Makes.{Makes}
 use Rattle.reader.specs.declared.Flips.{Flips}
 use Rattle.reader.specs.declared.Flips.the-variants.{Nowhere, One, Two}
-use Rattle.maker.specs.declared.Making.{Making}
-use Rattle.maker.specs.declared.Making.the-variants.{Frame, TooLarge}
 
-abbrev pub codeOf : Making → ℕ
-codeOf (Frame f) = f
-codeOf TooLarge = outside
+abbrev pub codeOf : Answer ℕ → ℕ
+codeOf (gives f) = f
+codeOf (refused n) = n
 
 pub record MakesCode (d n : ℕ) : Type 0 where
-  pub made : Making
+  pub made : Answer ℕ
   pub owed : Makes d made
   pub code : n ≡ codeOf made
 
@@ -49,22 +49,20 @@ answerBytes = 12
 abbrev pub noPlace : ℕ
 noPlace = 255
 
-abbrev pub laidOut : ℕ → List ℕ → ℕ → List ℕ → List ℕ
-laidOut d ps pad a = eight d ++ (length ps ∷ getD ps 0 noPlace ∷ getD ps 1 noPlace ∷ pad ∷ drop answerBytes a)
+abbrev pub laidOut : Found → List ℕ → List ℕ
+laidOut r a =
+    eight (r .«data»)
+    ++ (length (r .places) ∷ getD (r .places) 0 noPlace ∷ getD (r .places) 1 noPlace ∷ r .pad ∷ drop answerBytes a)
 
-abbrev pub outcome : Answer → ℕ
-outcome (word d ps pad) = 0
-outcome (refused n) = n
-
-abbrev pub laid : Answer → List ℕ → List ℕ
-laid (word d ps pad) a = laidOut d ps pad a
+abbrev pub laid : Answer Found → List ℕ → List ℕ
+laid (gives r) a = laidOut r a
 laid (refused n) a = a
 
-pub record Answered (f : ℕ) (a₀ : List ℕ) (n : ℕ) (a : List ℕ) : Type 0 where
-  pub answer : Answer
+pub record Answered (f : ℕ) (o : Lent) (n : ℕ) : Type 0 where
+  pub answer : Answer Found
   pub owed : Reads f answer
-  pub number : n ≡ outcome answer
-  pub buffer : a ≡ laid answer a₀
+  pub number : n ≡ numberOf answer
+  pub buffer : o .is ≡ laid answer (o .was)
 
-abbrev pub ReadsOut : ℕ → List ℕ → ℕ → List ℕ → Type 0
-ReadsOut f a₀ n a = ((length a₀ < answerBytes) × (n ≡ unfit) × (a ≡ a₀)) ⊎ ((answerBytes ≤ length a₀) × Answered f a₀ n a)
+abbrev pub ReadsOut : ℕ → Lent → ℕ → Type 0
+ReadsOut f o n = ((length (o .was) < answerBytes) × (n ≡ unfit) × (o .is ≡ o .was)) ⊎ ((answerBytes ≤ length (o .was)) × Answered f o n)

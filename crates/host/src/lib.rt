@@ -2,22 +2,20 @@
 ghost use mathlib.Core.Path.{_≡_};
 ghost use Prim.Native.Nat.{_≤_};
 ghost use lib.ListN.{length, getD};
-ghost use Rattle.reader.specs.Answers.{placesOf, flag};
-ghost use Rattle.maker.specs.Bytes.{MakesBytes};
-ghost use Rattle.reader.specs.Bytes.{ReadsBytes};
+ghost use Rattle.paper.specs.Answer.{numbered};
+ghost use Rattle.laws.specs.Lent.{lent};
+ghost use Rattle.reader.specs.Answers.{placesOf, flag, found};
+ghost use Rattle.maker.specs.Answers.{answer};
+ghost use Rattle.maker.specs.Lists.{MakesBytes};
+ghost use Rattle.reader.specs.Lists.{ReadsBytes};
 ghost use Rattle.host.specs.Entries.{codeOf, MakesCode, Small, answerBytes, noPlace, laidOut, ReadsOut};
 use maker::Making;
 use reader::Flips;
 use reader::Reading;
+use reader::Word;
 
-// The paper's refusals as C gets them.
-const OUTSIDE: u64 = paper::OUTSIDE as u64;
-
+// 12 as C gets it.
 const UNFIT: u64 = paper::UNFIT as u64;
-
-const NO_WORD: u64 = paper::NO_WORD as u64;
-
-const RUN_BROKEN: u64 = paper::RUN_BROKEN as u64;
 
 // The bytes of an answer.
 const ANSWER_BYTES: usize = 12;
@@ -32,11 +30,11 @@ fn wide(n: u8) -> u64
 }
 
 fn code_of(m: Making) -> u64
-    ensures { λ n. ⌜ n ≡ codeOf m ⌝ }
+    ensures { λ n. ⌜ n ≡ codeOf (answer m) ⌝ }
 {
     match m {
         Making::Frame(f) => f,
-        Making::TooLarge => OUTSIDE,
+        Making::Refused(n) => wide(n),
     }
 }
 
@@ -79,15 +77,16 @@ fn flag_of(wrong: bool) -> u8
 }
 
 // A reading in the twelve bytes of the answer.
-fn lay_out(answer: &mut [u8], data: u64, flips: Flips, pad_wrong: bool)
-    requires { ⌜ (answerBytes ≤ length (now answer)) × Small flips ⌝ }
-    ensures { λ _. ⌜ now (answer .exit) ≡ laidOut «data» (placesOf flips) (flag «pad_wrong») (now (answer .entry)) ⌝ }
+fn lay_out(answer: &mut [u8], w: Word)
+    requires { ⌜ (answerBytes ≤ length (now answer)) × Small (w .flips) ⌝ }
+    ensures { λ _. ⌜ now (answer .exit) ≡ laidOut (found w) (now (answer .entry)) ⌝ }
 {
-    octets::store(answer, 0, data);
+    let flips = w.flips;
+    octets::store(answer, 0, w.data);
     answer[8] = count_of(flips);
     answer[9] = first_of(flips);
     answer[10] = second_of(flips);
-    answer[11] = flag_of(pad_wrong);
+    answer[11] = flag_of(w.pad_wrong);
 }
 
 #[no_mangle]
@@ -99,35 +98,30 @@ pub extern "C" fn lks_frame_make(data: u64) -> u64
 
 #[no_mangle]
 pub extern "C" fn lks_frame_read(frame: u64, answer: &mut [u8]) -> u64
-    ensures { λ n. ⌜ ReadsOut frame (now (answer .entry)) n (now (answer .exit)) ⌝ }
+    ensures { λ n. ⌜ ReadsOut frame (lent answer) n ⌝ }
 {
     if answer.len() < ANSWER_BYTES {
         return UNFIT;
     }
     match reader::read(frame) {
-        Reading::Word {
-            data,
-            flips,
-            pad_wrong,
-        } => {
-            lay_out(answer, data, flips, pad_wrong);
+        Reading::Lawful(w) => {
+            lay_out(answer, w);
             0
         }
-        Reading::NoWord => NO_WORD,
-        Reading::RunBroken => RUN_BROKEN,
+        Reading::Refused(n) => wide(n),
     }
 }
 
 #[no_mangle]
 pub extern "C" fn lks_frames_make(data: &[u8], frames: &mut [u8]) -> u64
-    ensures { λ n. ⌜ MakesBytes (now («data» .entry)) (now (frames .entry)) n (now (frames .exit)) ⌝ }
+    ensures { λ n. ⌜ MakesBytes (now («data» .entry)) (lent frames) (numbered n) ⌝ }
 {
-    wide(maker::number_of(maker::make_bytes(data, frames)))
+    wide(paper::number_of(maker::make_bytes(data, frames)))
 }
 
 #[no_mangle]
 pub extern "C" fn lks_frames_read(frames: &[u8], data: &mut [u8], verdicts: &mut [u8]) -> u64
-    ensures { λ n. ⌜ ReadsBytes (now (frames .entry)) (now («data» .entry)) (now (verdicts .entry)) n (now («data» .exit)) (now (verdicts .exit)) ⌝ }
+    ensures { λ n. ⌜ ReadsBytes (now (frames .entry)) (lent «data») (lent verdicts) (numbered n) ⌝ }
 {
-    wide(reader::number_of(reader::read_bytes(frames, data, verdicts)))
+    wide(paper::number_of(reader::read_bytes(frames, data, verdicts)))
 }

@@ -21,6 +21,7 @@
 -- │               │ leaves one list in each output                                     │
 -- │ call-refused, │ what a list call owes that refuses, and one that is done           │
 -- │ call-done     │                                                                    │
+-- │ numbered-call │ the number that C gets of a list call says its answer              │
 -- │ one-left      │ where an answer leaves one list, a call with one output does       │
 -- └───────────────┴────────────────────────────────────────────────────────────────────┘
 use mathlib.Core.Path.{_≡_, refl, sym, ap, ap₂, _∙_, subst}
@@ -31,7 +32,8 @@ use native.Mathlib.Numerals.{add-one}
 use native.Mathlib.Omega.{arith}
 use lib.ListN.{length, getD, take, drop, set, length-map}
 use lib.Seq.{take-all, take-suc, length-take-le}
-use Rattle.paper.specs.Answer.{Answer, gives, refused, owed, done}
+use Rattle.paper.specs.Answer.{Answer, gives, refused, owed, done, numberOf, numbered}
+use Rattle.paper.proofs.Answer.{numbered-back}
 use Rattle.laws.specs.Lent.{_over_, Each, none, next, Output, AllShow, AllAsWere, Written, Leaves, ListCall, Left}
 
 pub over-none : (out : List ℕ) → [] over out ≡ out
@@ -184,6 +186,12 @@ module _ {A B : Type 0} {R : A → B → Type 0} {xs : List A} {os : List (Outpu
 
   pub call-done : n ≡ 0 → Written R xs os → ListCall R xs n os done
   call-done e w = record { number = ap (λ (i : ℕ). owed i tt) (sym e); left = w }
+
+-- the number that C gets of a list call says its answer
+pub numbered-call : {A B : Type 0} {R : A → B → Type 0} {xs : List A} {os : List (Output B)} {n m : ℕ} {a : Answer Unit} → m ≡ numberOf a
+    → ListCall R xs n os a → ListCall R xs n os (numbered m)
+numbered-call {A} {B} {R} {xs} {os} {n} {m} {a} e c =
+    subst (ListCall R xs n os) (sym (ap numbered e ∙ numbered-back n a (c .number))) c
 
 pub one-left : {A U W : Type 0} (a : Answer A) (o₀ : List ℕ) {p q : List ℕ} → (U → W → p ≡ q) → Left a U o₀ p → Left a W o₀ q → p ≡ q
 one-left (gives a) o₀ one s t = one s t

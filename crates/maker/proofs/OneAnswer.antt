@@ -1,24 +1,42 @@
 -- Each call's contract leaves one answer.
 -- ┌──────────────┬──────────────────────────────────────────────────────────────┐
+-- │ one-made-    │ two answers to one data word are the same                    │
+-- │   answer     │                                                              │
 -- │ one-making … │ the claims of specs/Claims.antt by these names               │
 -- └──────────────┴──────────────────────────────────────────────────────────────┘
 use mathlib.Core.Path.{_≡_, refl, sym, ap, _∙_}
 use mathlib.Core.List.{[], _∷_}
+use Prim.Native.Nat.{ℕ}
 use lib.ListN.{getD}
+use Rattle.paper.specs.Answer.{Answer, gives, refused}
+use Rattle.paper.proofs.Answer.{gives-one, refused-one, never-both}
 use Rattle.laws.proofs.Truth.{is-true}
 use Rattle.laws.proofs.Writing.{one-call}
 use Rattle.octets.specs.Octets.{numbersOf}
 use Rattle.frame.specs.Word.{FrameOf}
 use Rattle.frame.proofs.Frames.{one-frame}
+use Rattle.maker.specs.Answers.{answer}
+use Rattle.maker.specs.Makes.{Makes}
 use Rattle.maker.specs.Lists.{listRefusal, bytesRefusal, inOrder, inBytes}
 use Rattle.maker.specs.Claims.{OneMaking, OneMadeList, OneMadeBytes}
+use Rattle.maker.specs.declared.Making.{Making}
 use Rattle.maker.specs.declared.Making.the-variants.{Frame, Refused}
 
+-- what the maker owes is one
+pub one-made-answer : (d : ℕ) (a b : Answer ℕ) → Makes d a → Makes d b → a ≡ b
+one-made-answer d (gives f) (gives g) p q = ap gives (one-frame d f g (p .1) (q .1))
+one-made-answer d (gives f) (refused n) p q = absurd (is-true (sym (p .0) ∙ q .0))
+one-made-answer d (refused m) (gives g) p q = absurd (is-true (sym (q .0) ∙ p .0))
+one-made-answer d (refused m) (refused n) p q = ap refused (p .1 ∙ sym (q .1))
+
+answer-one : (m n : Making) → answer m ≡ answer n → m ≡ n
+answer-one (Frame f) (Frame g) e = ap Frame (gives-one f g e)
+answer-one (Frame f) (Refused n) e = absurd (never-both f n e)
+answer-one (Refused m) (Frame g) e = absurd (never-both g m (sym e))
+answer-one (Refused m) (Refused n) e = ap Refused (refused-one m n e)
+
 pub one-making : OneMaking
-one-making d (Frame f) (Frame g) p q = ap Frame (one-frame d f g (p .1) (q .1))
-one-making d (Frame f) (Refused n) p q = absurd (is-true (sym (p .0) ∙ q .0))
-one-making d (Refused m) (Frame g) p q = absurd (is-true (sym (q .0) ∙ p .0))
-one-making d (Refused m) (Refused n) p q = ap Refused (p .1 ∙ sym (q .1))
+one-making d m n p q = answer-one m n (one-made-answer d (answer m) (answer n) p q)
 
 pub one-made-list : OneMadeList
 one-made-list ds o o′ a b e p q =

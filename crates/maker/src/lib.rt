@@ -5,7 +5,6 @@ ghost use Rattle.laws.specs.Lent.{lent};
 ghost use Rattle.maker.specs.Answers.{answer};
 ghost use Rattle.maker.specs.Makes.{Makes};
 ghost use Rattle.maker.specs.Lists.{MakesList};
-
 use paper::Listed;
 
 mod bytes;

@@ -5,10 +5,11 @@
 -- │ never-both   │ no answer is a value and a refusal                              │
 -- │ listed-one   │ a `Listed` is known from its answer                             │
 -- │ numbered-one │ and so is a number                                              │
+-- │ numbered-back│ the number of an answer that is owed says it                    │
 -- └──────────────┴─────────────────────────────────────────────────────────────────┘
-use mathlib.Core.Path.{_≡_, refl, ap, subst}
+use mathlib.Core.Path.{_≡_, refl, sym, ap, _∙_, subst}
 use Prim.Native.Nat.{ℕ, zero, suc}
-use Rattle.paper.specs.Answer.{Answer, gives, refused, listed, numbered}
+use Rattle.paper.specs.Answer.{Answer, gives, refused, owed, listed, numberOf, numbered}
 use Rattle.paper.specs.declared.Listed.{Listed}
 use Rattle.paper.specs.declared.Listed.the-variants.{Done, Refused}
 
@@ -37,3 +38,7 @@ numbered-one zero zero e = refl
 numbered-one zero (suc n) e = cc
 numbered-one (suc m) zero e = cc
 numbered-one (suc m) (suc n) e = refused-one (suc m) (suc n) e
+
+pub numbered-back : (k : ℕ) (a : Answer Unit) → a ≡ owed k tt → numbered (numberOf a) ≡ a
+numbered-back zero a e = ap (λ (x : Answer Unit). numbered (numberOf x)) e ∙ sym e
+numbered-back (suc k) a e = ap (λ (x : Answer Unit). numbered (numberOf x)) e ∙ sym e

@@ -1,6 +1,6 @@
--- The claims of specs/Numbers.antt, by the same names in lower case.
+-- The claims of specs/Claims.antt, by the same names in lower case.
 use mathlib.Core.Path.{refl}
-use Rattle.paper.specs.Numbers.{InOrder, WholeFrames}
+use Rattle.paper.specs.Claims.{InOrder, WholeFrames}
 
 pub in-order : InOrder
 in-order = refl

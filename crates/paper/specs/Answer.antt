@@ -5,6 +5,7 @@
 -- │           │ where n is 0, none                                                 │
 -- │ done      │ the answer of a call whose values stand in lent lists              │
 -- │ listed l  │ the answer that a `Listed` is                                      │
+-- │ numberOf a│ its refusal, 0 where it is a value                                 │
 -- │ numbered n│ the answer of such a call that returns a number: 0 where it is     │
 -- │           │ done, else the refusal                                             │
 -- └───────────┴────────────────────────────────────────────────────────────────────┘
@@ -26,6 +27,10 @@ done = gives tt
 abbrev pub listed : Listed → Answer Unit
 listed Done = done
 listed (Refused n) = refused n
+
+abbrev pub numberOf : {A : Type 0} → Answer A → ℕ
+numberOf (gives a) = 0
+numberOf (refused n) = n
 
 abbrev pub numbered : ℕ → Answer Unit
 numbered n = owed n tt

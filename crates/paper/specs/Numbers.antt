@@ -14,15 +14,9 @@
 -- │ unless n b      │ 0, no refusal, where the test b is passed; n where it is not   │
 -- │ mostBytes       │ of a piece and of a buffer                                     │
 -- │ mostCounted     │ the bits compared, and the frames of a tally, at most          │
--- │ refusals        │ the refusals, in the order of the paper's table                │
--- │ rising k n      │ the k numbers from n on                                        │
--- │ InOrder         │ the refusals are the ten numbers from 11 on                    │
--- │ WholeFrames     │ a full piece is whole frames of eight bytes                    │
 -- └─────────────────┴────────────────────────────────────────────────────────────────┘
-use mathlib.Core.Path.{_≡_}
 use mathlib.Core.Bool.{Bool, true, false}
-use mathlib.Core.List.{List, [], _∷_}
-use Prim.Native.Nat.{ℕ, zero, suc, _-_, _%_, _^_}
+use Prim.Native.Nat.{ℕ, _-_, _^_}
 
 abbrev pub outside : ℕ
 outside = 11
@@ -63,27 +57,3 @@ mostBytes = 65536
 
 abbrev pub mostCounted : ℕ
 mostCounted = 2 ^ 53 - 1
-
-abbrev pub refusals : List ℕ
-refusals =
-    outside
-    ∷ unfit
-    ∷ noWord
-    ∷ runBroken
-    ∷ noBlock
-    ∷ eighth
-    ∷ tooManyBits
-    ∷ allZero
-    ∷ nothingCompared
-    ∷ pastCount
-    ∷ []
-
-abbrev pub rising : ℕ → ℕ → List ℕ
-rising zero n = []
-rising (suc k) n = n ∷ rising k (suc n)
-
-abbrev pub InOrder : Type 0
-InOrder = refusals ≡ rising 10 11
-
-abbrev pub WholeFrames : Type 0
-WholeFrames = mostBytes % 8 ≡ 0

@@ -1,4 +1,6 @@
 // The numbers that the paper fixes for more than one crate: its refusals and its limits. specs/Numbers has them by the same names.
+ghost use mathlib.Core.Path.{_≡_};
+ghost use Rattle.paper.specs.Answer.{listed, numberOf};
 
 // Data, a state, a verdict or a flag that is none.
 pub const OUTSIDE: u8 = 11;
@@ -32,4 +34,14 @@ pub const MOST_COUNTED: u64 = 9007199254740991;
 pub enum Listed {
     Done,
     Refused(u8),
+}
+
+// The number of such an answer towards C: 0 where it is done.
+pub fn number_of(l: Listed) -> u8
+    ensures { λ n. ⌜ n ≡ numberOf (listed l) ⌝ }
+{
+    match l {
+        Listed::Done => 0,
+        Listed::Refused(n) => n,
+    }
 }

@@ -40,7 +40,7 @@ returns : tie.Need-returns
 returns c =
     let a = c .before .before .before .before .before .before .before .before .before in
     rw (c .flag-of .ensures, c .before .second-of .ensures, c .before .before .first-of .ensures, c .before .before .before .count-of .ensures)
-    (twelve (a .args .answer .now) (c .before .before .before .before .before .before .store .last .0) (a .args .«data») _ _ _ _ (a .pre .0) (c .before .before .before .before .before .before .store .ensures))
+    (twelve (a .args .answer .now) (c .before .before .before .before .before .before .store .last .0) (a .args .w .«data») _ _ _ _ (a .pre .0) (c .before .before .before .before .before .before .store .ensures))
 
 pub lay-out-spec : {M : Type 1} → statement M
 lay-out-spec =

@@ -1,5 +1,7 @@
 -- `host::lks_frames_make` meets its contract: that of `maker::make_bytes`, with its answer's number.
+use mathlib.Core.Path.{_∙_}
 use borrow.Author.Needs.{needs}
+use Rattle.laws.proofs.Writing.{numbered-call}
 use Rattle.host.proofs.lks_frames_make.Statement.{statement}
 use Rattle.host.proofs.lks_frames_make.Tie as tie
 
@@ -16,7 +18,7 @@ same-length : tie.Need-same-length
 same-length c = search needs
 
 returns : tie.Need-returns
-returns c = rw (c .wide .ensures) (rw (c .before .number-of .ensures) (c .before .before .before .before .make-bytes .ensures))
+returns c = numbered-call (c .wide .ensures ∙ c .before .number-of .ensures) (c .before .before .before .before .make-bytes .ensures)
 
 pub lks-frames-make-spec : {M : Type 1} → statement M
 lks-frames-make-spec =

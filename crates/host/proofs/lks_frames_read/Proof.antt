@@ -1,5 +1,7 @@
 -- `host::lks_frames_read` meets its contract: that of `reader::read_bytes`, with its answer's number.
+use mathlib.Core.Path.{_∙_}
 use borrow.Author.Needs.{needs}
+use Rattle.laws.proofs.Writing.{numbered-call}
 use Rattle.host.proofs.lks_frames_read.Statement.{statement}
 use Rattle.host.proofs.lks_frames_read.Tie as tie
 
@@ -19,7 +21,7 @@ same-length-2 : tie.Need-same-length-2
 same-length-2 c = search needs
 
 returns : tie.Need-returns
-returns c = rw (c .wide .ensures) (rw (c .before .number-of .ensures) (c .before .before .before .before .before .before .read-bytes .ensures))
+returns c = numbered-call (c .wide .ensures ∙ c .before .number-of .ensures) (c .before .before .before .before .before .before .read-bytes .ensures)
 
 pub lks-frames-read-spec : {M : Type 1} → statement M
 lks-frames-read-spec =

@@ -1,7 +1,8 @@
--- `measured::measured_read_list_pads` meets its contract: that of `reader::read_list_pads`, with its answer's number.
+-- `frame_bench::bench_read_list_pads` meets its contract: that of `reader::read_list_pads`, with its answer's number.
 use borrow.Author.Needs.{needs}
-use Rattle.measured.proofs.measured_read_list_pads.Statement.{statement}
-use Rattle.measured.proofs.measured_read_list_pads.Tie as tie
+use Rattle.laws.proofs.Writing.{numbered-call}
+use Rattle.frame_bench.proofs.bench_read_list_pads.Statement.{statement}
+use Rattle.frame_bench.proofs.bench_read_list_pads.Tie as tie
 
 read-list-pads-requires : tie.Need-read-list-pads-requires
 read-list-pads-requires c κs = search needs
@@ -19,10 +20,10 @@ same-length-3 : tie.Need-same-length-3
 same-length-3 c = search needs
 
 returns : tie.Need-returns
-returns c = rw (c .number-of .ensures) (c .before .before .before .before .before .before .before .read-list-pads .ensures)
+returns c = numbered-call (c .number-of .ensures) (c .before .before .before .before .before .before .before .read-list-pads .ensures)
 
-pub measured-read-list-pads-spec : {M : Type 1} → statement M
-measured-read-list-pads-spec =
+pub bench-read-list-pads-spec : {M : Type 1} → statement M
+bench-read-list-pads-spec =
     tie.close
     (tie.spec
     read-list-pads-requires

@@ -53,6 +53,10 @@ pub fn read_by(corrections: &[u16; 4096], sums: &[u16; 2048], frame: u64) -> Rea
     ensures { λ r. ⌜ answer r ≡ readBy (now (corrections .entry)) (now (sums .entry)) frame ⌝ }
 {
     let x = sums::sums_by(sums, frame);
+    // The usual frame first.
+    if x == said::CLEAN {
+        return said::clean(frame);
+    }
     said::said(frame, mend::mend_by(corrections, x, frame))
 }
 

@@ -2,8 +2,9 @@
 ghost use mathlib.Core.Path.{_≡_};
 ghost use Rattle.frame.specs.Word.{dataOf};
 ghost use Rattle.reader.specs.Answers.{answer};
-ghost use Rattle.reader.specs.ByTables.{saidBy, lawfulBy};
+ghost use Rattle.reader.specs.ByTables.{asReceived, saidBy, lawfulBy};
 ghost use Rattle.reader.specs.Parts.{mended, mending};
+use crate::Flips;
 use crate::Reading;
 use crate::Word;
 use crate::mend::Mended;
@@ -11,6 +12,9 @@ use crate::mend::Mending;
 
 // The run sums of a word whose three run bits are right.
 const ALL_RIGHT: u64 = 7;
+
+// The sums of a lawful word: remainder 0, and all right.
+pub(crate) const CLEAN: u64 = 0x7000;
 
 fn data_in(w: u64) -> u64
     ensures { λ r. ⌜ r ≡ dataOf w ⌝ }
@@ -33,6 +37,18 @@ fn lawful(frame: u64, m: Mended) -> Reading
         });
     }
     Reading::Refused(paper::RUN_BROKEN)
+}
+
+// A lawful word as it came.
+pub(crate) fn clean(frame: u64) -> Reading
+    ensures { λ r. ⌜ answer r ≡ saidBy frame (asReceived 0x7000 frame) ⌝ }
+{
+    let w = frame / 2;
+    Reading::Lawful(Word {
+        data: data_in(w),
+        flips: Flips::Nowhere,
+        pad_wrong: frame % 2 == w % 2,
+    })
 }
 
 pub(crate) fn said(frame: u64, m: Mending) -> Reading

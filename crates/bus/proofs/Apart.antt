@@ -11,24 +11,24 @@ use lib.Pow.{shr-shr}
 use lib.Bits.{bitXor, differ}
 use lib.Count.{ones, ones-step}
 use Rattle.laws.proofs.Xor.{bit-lt, bit-ind, xor-half, xor-odd}
-use Rattle.laws.specs.Bits.{unlike}
-use Rattle.bus.specs.Wires.{wire, apart}
+use Rattle.laws.specs.Bits.{bit, unlike}
+use Rattle.bus.specs.Wires.{apart}
 use Rattle.bus.specs.Claims.{CountIsApart}
 
--- wire n of the upper half is wire n + 1
-half-wire : (x n : ℕ) → wire (x / 2) n ≡ wire x (suc n)
-half-wire x n = ap (λ (z : ℕ). z % 2) (shr-shr x 1 n ∙ ap (λ (k : ℕ). x / 2 ^ k) (omega arith))
+-- bit n of the upper half is bit n + 1
+half-bit : (x n : ℕ) → bit (x / 2) n ≡ bit x (suc n)
+half-bit x n = ap (λ (z : ℕ). z % 2) (shr-shr x 1 n ∙ ap (λ (k : ℕ). x / 2 ^ k) (omega arith))
 
-low-wire : (x : ℕ) → wire x 0 ≡ x % 2
-low-wire x = omega arith
+low-bit : (x : ℕ) → bit x 0 ≡ x % 2
+low-bit x = omega arith
 
 pub apart-half : (n x y : ℕ) → apart (suc n) x y ≡ unlike (x % 2) (y % 2) + apart n (x / 2) (y / 2)
 unfolding apart
-apart-half zero x y = ap₂ (λ (a b : ℕ). unlike a b + 0) (low-wire x) (low-wire y)
+apart-half zero x y = ap₂ (λ (a b : ℕ). unlike a b + 0) (low-bit x) (low-bit y)
 apart-half (suc n) x y =
-    ap (λ (k : ℕ). unlike (wire x (suc n)) (wire y (suc n)) + k) (apart-half n x y)
+    ap (λ (k : ℕ). unlike (bit x (suc n)) (bit y (suc n)) + k) (apart-half n x y)
     ∙ add-left-comm _ _ _
-    ∙ ap₂ (λ (a b : ℕ). unlike (x % 2) (y % 2) + (unlike a b + apart n (x / 2) (y / 2))) (sym (half-wire x n)) (sym (half-wire y n))
+    ∙ ap₂ (λ (a b : ℕ). unlike (x % 2) (y % 2) + (unlike a b + apart n (x / 2) (y / 2))) (sym (half-bit x n)) (sym (half-bit y n))
 
 differ-unlike : (x y : ℕ) → differ (x % 2) (y % 2) ≡ unlike (x % 2) (y % 2)
 differ-unlike x y =

@@ -11,20 +11,20 @@ use native.Mathlib.Nat.{pow-suc, mod-eq-of-lt}
 use native.Mathlib.Omega.{arith}
 use lib.Pow.{mod-pow-add}
 use Rattle.laws.proofs.Xor.{bit-lt, bit-ind}
-use Rattle.laws.specs.Bits.{unlike}
-use Rattle.bus.specs.Wires.{wire, apart, inverted}
+use Rattle.laws.specs.Bits.{bit, unlike}
+use Rattle.bus.specs.Wires.{apart, inverted}
 use Rattle.bus.proofs.Apart.{apart-half}
 
 either : (d p : ℕ) → d < 2 → (1 - d) * p + d * p ≡ p
 either d p = bit-ind (λ d. (1 - d) * p + d * p ≡ p) (omega arith) (omega arith) d
 
-high-wire : (n y : ℕ) → y % 2 ^ suc n ≡ wire y n * 2 ^ n + y % 2 ^ n
-high-wire n y = ap (λ (k : ℕ). y % 2 ^ k) (omega arith) ∙ mod-pow-add y 1 n
+high-bit : (n y : ℕ) → y % 2 ^ suc n ≡ bit y n * 2 ^ n + y % 2 ^ n
+high-bit n y = ap (λ (k : ℕ). y % 2 ^ k) (omega arith) ∙ mod-pow-add y 1 n
 
 whole : (n y : ℕ) → inverted n y + y % 2 ^ n + 1 ≡ 2 ^ n
 unfolding inverted
 whole zero y = omega arith
-whole (suc n) y = omega (arith, whole n y, high-wire n y, either (wire y n) (2 ^ n) (bit-lt (y / 2 ^ n)), pow-suc 2 n)
+whole (suc n) y = omega (arith, whole n y, high-bit n y, either (bit y n) (2 ^ n) (bit-lt (y / 2 ^ n)), pow-suc 2 n)
 
 pub inverted-is : (w y : ℕ) → y < 2 ^ w → inverted w y ≡ 2 ^ w - 1 - y
 inverted-is w y h = omega (arith, whole w y, mod-eq-of-lt h)

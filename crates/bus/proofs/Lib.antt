@@ -3,3 +3,4 @@ pub mod Apart
 pub mod Inverse
 pub mod Answers
 pub mod Theorems
+pub mod Bound

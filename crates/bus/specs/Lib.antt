@@ -1,4 +1,5 @@
 pub mod Wires
 pub mod Rule
+pub mod Answers
 pub mod Calls
 pub mod Claims

@@ -1,14 +1,18 @@
 -- Bus-invert, as the paper says it.
 -- ┌──────────────┬──────────────────────────────────────────────────────────────────┐
 -- │ widest       │ the data wires of a bus at most                                  │
--- │ lawful w x v │ width 1 to 31, no wire set above it, invert wire 0 or 1          │
--- │ crowded      │ the wires that differ are more than half the width               │
--- │ sent         │ the data inverted with the invert wire set, or as it is          │
+-- │ state w x v  │ a bus of width w with x on its data wires and v on the invert    │
+-- │              │ wire                                                             │
+-- │ plain w y    │ data y sent as it is, the invert wire cleared                    │
+-- │ opposite w y │ data y sent inverted, the invert wire set                        │
+-- │ inRange b    │ width 1 to 31, no wire set above it, invert wire 0 or 1          │
+-- │ crowded b y  │ the rule by which the sender inverts: the data wires that differ │
+-- │              │ are more than half the width                                     │
 -- │ next b y     │ the state after data y is sent                                   │
--- │ undone       │ what the receiver makes of the wires                             │
+-- │ undone w x v │ what the receiver makes of the wires                             │
 -- └──────────────┴──────────────────────────────────────────────────────────────────┘
--- The receiver and what is sent do not look into `crowded`: another rule changes that line alone.
-use mathlib.Core.Bool.{Bool, true, false, _&&_}
+-- The rule has the whole state before it, and nothing else looks into it: another rule changes that line alone.
+use mathlib.Core.Bool.{Bool, cond, _&&_}
 use Prim.Native.Nat.{ℕ, zero, suc, _*_, _^_}
 use lib.Dec.{leb, ltb}
 use Rattle.bus.specs.declared.Bus.{Bus}
@@ -17,18 +21,23 @@ use Rattle.bus.specs.Wires.{apart, inverted}
 abbrev pub widest : ℕ
 widest = 31
 
-abbrev pub lawful : ℕ → ℕ → ℕ → Bool
-lawful w x v = leb 1 w && (leb w widest && (ltb x (2 ^ w) && leb v 1))
+abbrev pub state : ℕ → ℕ → ℕ → Bus
+state w x v = record { width = w; wires = x; invert = v }
 
-abbrev pub crowded : ℕ → ℕ → ℕ → Bool
-crowded w x y = ltb w (2 * apart w x y)
+abbrev pub plain : ℕ → ℕ → Bus
+plain w y = state w y 0
 
-abbrev pub sent : Bool → ℕ → ℕ → Bus
-sent true w y = record { width = w; wires = inverted w y; invert = 1 }
-sent false w y = record { width = w; wires = y; invert = 0 }
+abbrev pub opposite : ℕ → ℕ → Bus
+opposite w y = state w (inverted w y) 1
+
+abbrev pub inRange : Bus → Bool
+inRange b = leb 1 (b .width) && (leb (b .width) widest && (ltb (b .wires) (2 ^ b .width) && leb (b .invert) 1))
+
+unfoldable pub crowded : Bus → ℕ → Bool
+crowded b y = ltb (b .width) (2 * apart (b .width) (b .wires) y)
 
 abbrev pub next : Bus → ℕ → Bus
-next b y = sent (crowded (b .width) (b .wires) y) (b .width) y
+next b y = cond (crowded b y) (opposite (b .width) y) (plain (b .width) y)
 
 abbrev pub undone : ℕ → ℕ → ℕ → ℕ
 undone w x zero = x

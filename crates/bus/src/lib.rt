@@ -1,9 +1,11 @@
 // Bus-invert: a sender that turns the data over where that changes fewer wires, and the receiver that undoes it.
 ghost use mathlib.Core.Path.{_≡_};
+ghost use mathlib.Core.Bool.{true};
 ghost use Prim.Native.Nat.{_≤_, _<_, _^_};
 ghost use Rattle.bus.specs.Wires.{inverted};
-ghost use Rattle.bus.specs.Rule.{widest, crowded, lawful};
-ghost use Rattle.bus.specs.Calls.{drivenNumber, receivedNumber, Starts, Sends, Receives};
+ghost use Rattle.bus.specs.Rule as rule;
+ghost use Rattle.bus.specs.Rule.{widest, inRange};
+ghost use Rattle.bus.specs.Calls.{Starts, Sends, Receives};
 
 // The data wires of a bus at most.
 const WIDEST: u32 = 31;
@@ -15,65 +17,41 @@ pub struct Bus {
     pub invert: u8,
 }
 
-// The state that the bus now has, or row 11.
+// The state that the bus now has.
 pub enum Driven {
     Now(Bus),
-    NotDriven,
+    Refused(u8),
 }
 
-// The data that the sender was given, or row 11.
+// The data that the sender was given.
 pub enum Received {
     Word(u32),
-    NotReceived,
+    Refused(u8),
 }
 
-impl Driven {
-    // The paper's number of the answer, 0 where it is a state.
-    pub fn number(self) -> u8
-        ensures { λ r. ⌜ r ≡ drivenNumber self ⌝ }
-    {
-        match self {
-            Driven::Now(_) => 0,
-            Driven::NotDriven => paper::OUTSIDE,
-        }
-    }
-}
-
-impl Received {
-    // The paper's number of the answer, 0 where it is data.
-    pub fn number(self) -> u8
-        ensures { λ r. ⌜ r ≡ receivedNumber self ⌝ }
-    {
-        match self {
-            Received::Word(_) => 0,
-            Received::NotReceived => paper::OUTSIDE,
-        }
-    }
-}
-
-// Whether these are wires of a bus: what row 11 asks of a state handed in and of what is received.
-fn in_range(width: u32, wires: u32, invert: u8) -> bool
-    ensures { λ r. ⌜ r ≡ lawful width wires invert ⌝ }
+// Whether these are wires of a bus: what row 11 asks of a state handed in, of data to be sent and of what is received.
+fn in_range(b: Bus) -> bool
+    ensures { λ r. ⌜ r ≡ inRange b ⌝ }
 {
-    if width < 1 {
+    if b.width < 1 {
         return false;
     }
-    if WIDEST < width {
+    if WIDEST < b.width {
         return false;
     }
-    if 1u32 << width <= wires {
+    if 1u32 << b.width <= b.wires {
         return false;
     }
-    invert <= 1
+    b.invert <= 1
 }
 
 // The rule by which the sender inverts.
-fn over_half(width: u32, present: u32, data: u32) -> bool
-    requires { ⌜ (width ≤ widest) × ((present < 2 ^ width) × («data» < 2 ^ width)) ⌝ }
-    ensures { λ r. ⌜ r ≡ crowded width present «data» ⌝ }
+fn crowded(b: Bus, data: u32) -> bool
+    requires { ⌜ (inRange b ≡ true) × (inRange (rule.plain (b .width) «data») ≡ true) ⌝ }
+    ensures { λ r. ⌜ r ≡ rule.crowded b «data» ⌝ }
 {
-    let differing = u32::count_ones(present ^ data);
-    width < 2 * differing
+    let differing = u32::count_ones(b.wires ^ data);
+    b.width < 2 * differing
 }
 
 fn turned(width: u32, wires: u32) -> u32
@@ -83,47 +61,56 @@ fn turned(width: u32, wires: u32) -> u32
     (1u32 << width) - 1 - wires
 }
 
+// Data on the wires as it is.
+fn plain(width: u32, data: u32) -> Bus
+    ensures { λ r. ⌜ r ≡ rule.plain width «data» ⌝ }
+{
+    Bus {
+        width,
+        wires: data,
+        invert: 0,
+    }
+}
+
+// Data on the wires inverted.
+fn opposite(width: u32, data: u32) -> Bus
+    requires { ⌜ (width ≤ widest) × («data» < 2 ^ width) ⌝ }
+    ensures { λ r. ⌜ r ≡ rule.opposite width «data» ⌝ }
+{
+    Bus {
+        width,
+        wires: turned(width, data),
+        invert: 1,
+    }
+}
+
 impl Bus {
     // A bus at rest.
     pub fn fresh(width: u32) -> Driven
         ensures { λ r. ⌜ Starts width r ⌝ }
     {
-        let wires = 0;
-        let invert = 0;
-        if in_range(width, wires, invert) {
-            return Driven::Now(Bus {
-                width,
-                wires,
-                invert,
-            });
+        let rest = plain(width, 0);
+        if in_range(rest) {
+            return Driven::Now(rest);
         }
-        Driven::NotDriven
+        Driven::Refused(paper::OUTSIDE)
     }
 
     // The state in which the data is on the wires.
     pub fn send(self, data: u32) -> Driven
         ensures { λ r. ⌜ Sends self «data» r ⌝ }
     {
-        let width = self.width;
-        let present = self.wires;
-        if !in_range(width, present, self.invert) {
-            return Driven::NotDriven;
+        if !in_range(self) {
+            return Driven::Refused(paper::OUTSIDE);
         }
-        if !in_range(width, data, 0) {
-            return Driven::NotDriven;
+        let as_it_is = plain(self.width, data);
+        if !in_range(as_it_is) {
+            return Driven::Refused(paper::OUTSIDE);
         }
-        if over_half(width, present, data) {
-            return Driven::Now(Bus {
-                width,
-                wires: turned(width, data),
-                invert: 1,
-            });
+        if crowded(self, data) {
+            return Driven::Now(opposite(self.width, data));
         }
-        Driven::Now(Bus {
-            width,
-            wires: data,
-            invert: 0,
-        })
+        Driven::Now(as_it_is)
     }
 }
 
@@ -131,8 +118,12 @@ impl Bus {
 pub fn receive(width: u32, wires: u32, invert: u8) -> Received
     ensures { λ r. ⌜ Receives width wires invert r ⌝ }
 {
-    if !in_range(width, wires, invert) {
-        return Received::NotReceived;
+    if !in_range(Bus {
+        width,
+        wires,
+        invert,
+    }) {
+        return Received::Refused(paper::OUTSIDE);
     }
     if invert == 0 {
         return Received::Word(wires);

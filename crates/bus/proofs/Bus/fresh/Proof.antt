@@ -1,18 +1,24 @@
 -- `fresh` answers by the test of row 11 alone.
-use mathlib.Core.Path.{refl, sym, ap, _∙_}
+use mathlib.Core.Path.{_≡_, sym, ap, _∙_}
 use borrow.Author.Needs.{needs}
-use Rattle.paper.specs.Numbers.{outside, unless}
+use Rattle.bus.specs.Rule.{plain, inRange}
 use Rattle.bus.proofs.Bus.fresh.Statement.{statement}
 use Rattle.bus.proofs.Bus.fresh.Tie as tie
+
+plain-requires : tie.Need-plain-requires
+plain-requires c κs = search needs
 
 in-range-requires : tie.Need-in-range-requires
 in-range-requires c κs = search needs
 
+right : (c : tie.After-in-range) → inRange (plain (c .before .before .args .width) 0) ≡ c .in-range .result
+right c = sym (c .in-range .ensures ∙ ap inRange (c .before .plain .ensures))
+
 returns : tie.Need-returns
-returns c = record { number = ap (unless outside) (sym (c .if1 .taken) ∙ c .before .in-range .ensures); state = refl }
+returns c = let p = c .before .before .plain .ensures in simp (p, right (c .before) ∙ c .if1 .taken)
 
 returns-2 : tie.Need-returns-2
-returns-2 c = record { number = ap (unless outside) (sym (c .if1 .left) ∙ c .before .in-range .ensures); state = tt }
+returns-2 c = simp (right (c .before) ∙ c .if1 .left)
 
 pub fresh-spec : {M : Type 1} → statement M
-fresh-spec = tie.close (tie.spec in-range-requires returns returns-2)
+fresh-spec = tie.close (tie.spec plain-requires in-range-requires returns returns-2)

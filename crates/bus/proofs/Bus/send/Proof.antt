@@ -1,11 +1,10 @@
 -- `send` tests the state, then the data, then goes by the rule.
 use mathlib.Core.Path.{_≡_, sym, ap, _∙_}
-use mathlib.Core.Bool.{Bool, true}
-use Prim.Native.Nat.{ℕ}
+use mathlib.Core.Bool.{true, false}
 use borrow.Author.Needs.{needs}
 use borrow.Author.Tests.{not-true, not-false}
-use Rattle.bus.specs.Rule.{lawful, sent}
-use Rattle.bus.proofs.Range.{InRange, in-range}
+use Rattle.bus.specs.Rule.{plain, inRange, crowded}
+use Rattle.bus.proofs.Range.{in-range}
 use Rattle.bus.proofs.Bus.send.Statement.{statement}
 use Rattle.bus.proofs.Bus.send.Tie as tie
 
@@ -13,53 +12,44 @@ in-range-requires : tie.Need-in-range-requires
 in-range-requires c κs = search needs
 
 returns : tie.Need-returns
-returns c = record { number = simp (sym (c .before .in-range .ensures) ∙ not-true _ (c .if1 .taken)); state = tt }
+returns c = simp (sym (c .before .in-range .ensures) ∙ not-true _ (c .if1 .taken))
+
+plain-requires : tie.Need-plain-requires
+plain-requires c κs = search needs
 
 in-range-requires-2 : tie.Need-in-range-requires-2
 in-range-requires-2 c κs = search needs
 
-state-right : (c : tie.Else1) → let b = c .before .before .args .self in lawful (b .width) (b .wires) (b .invert) ≡ true
+state-right : (c : tie.Else1) → inRange (c .before .before .args .self) ≡ true
 state-right c = sym (c .before .in-range .ensures) ∙ not-false _ (c .if1 .left)
 
-data-right : (c : tie.Else2) → let a = c .before .before .before .before .args in lawful (a .self .width) (a .data) 0 ≡ true
-data-right c = sym (c .before .in-range2 .ensures) ∙ not-false _ (c .if2 .left)
+-- what the second test came to
+data-test : (c : tie.After-in-range2) → let a = c .before .before .before .before .args in
+    inRange (plain (a .self .width) (a .data)) ≡ c .in-range2 .result
+data-test c = sym (c .in-range2 .ensures ∙ ap inRange (c .before .plain .ensures))
+
+data-right : (c : tie.Else2) → let a = c .before .before .before .before .before .args in inRange (plain (a .self .width) (a .data)) ≡ true
+data-right c = data-test (c .before) ∙ not-false _ (c .if2 .left)
 
 returns-2 : tie.Need-returns-2
-returns-2 c =
-    record {
-      number = simp (state-right (c .before .before), sym (c .before .in-range2 .ensures) ∙ not-true _ (c .if2 .taken));
-      state = tt;
-    }
+returns-2 c = simp (state-right (c .before .before .before), data-test (c .before) ∙ not-true _ (c .if2 .taken))
 
-data-range : (c : tie.Else2) → let a = c .before .before .before .before .args in InRange (a .self .width) (a .data) 0
-data-range c = in-range _ _ _ (data-right c)
+crowded-requires : tie.Need-crowded-requires
+crowded-requires c κs = (state-right (c .before .before .before), data-right c)
 
-state-range : (c : tie.Else1) → let b = c .before .before .args .self in InRange (b .width) (b .wires) (b .invert)
-state-range c = in-range _ _ _ (state-right c)
-
-over-half-requires : tie.Need-over-half-requires
-over-half-requires c κs = (data-range c .most, (state-range (c .before .before) .below, data-range c .below))
-
-turned-requires : tie.Need-turned-requires
-turned-requires c κs = let d = data-range (c .before .before) in (d .most, d .below)
+opposite-requires : tie.Need-opposite-requires
+opposite-requires c κs = let q = c .before .before in
+    let a = q .before .before .before .before .before .args in
+    let r = in-range (plain (a .self .width) (a .data)) (data-right q) in
+    (r .most, r .below)
 
 returns-3 : tie.Need-returns-3
 returns-3 c = let q = c .before .before .before in
-    let a = q .before .before .before .before .args in
-    record {
-      number = simp (state-right (q .before .before), data-right q);
-      state =
-          ap (λ (x : ℕ). record { width = a .self .width; wires = x; invert = 1 }) (c .turned .ensures)
-          ∙ ap (λ (t : Bool). sent t (a .self .width) (a .data)) (sym (c .before .if3 .taken) ∙ c .before .before .over-half .ensures);
-    }
+    simp (state-right (q .before .before .before), data-right q, sym (c .before .before .crowded .ensures) ∙ c .before .if3 .taken, c .opposite .ensures)
 
 returns-4 : tie.Need-returns-4
 returns-4 c = let q = c .before .before in
-    let a = q .before .before .before .before .args in
-    record {
-      number = simp (state-right (q .before .before), data-right q);
-      state = ap (λ (t : Bool). sent t (a .self .width) (a .data)) (sym (c .if3 .left) ∙ c .before .over-half .ensures);
-    }
+    simp (state-right (q .before .before .before), data-right q, sym (c .before .crowded .ensures) ∙ c .if3 .left, q .before .before .plain .ensures)
 
 pub send-spec : {M : Type 1} → statement M
 send-spec =
@@ -67,9 +57,10 @@ send-spec =
     (tie.spec
     in-range-requires
     returns
+    plain-requires
     in-range-requires-2
     returns-2
-    over-half-requires
-    turned-requires
+    crowded-requires
+    opposite-requires
     returns-3
     returns-4)

@@ -7,7 +7,7 @@
 -- │ stays-in-range  │ what is sent is in range                                      │
 -- │ undoes          │ the receiver answers the data that was sent                   │
 -- └─────────────────┴───────────────────────────────────────────────────────────────┘
-use mathlib.Core.Path.{_≡_, refl, sym, ap, _∙_}
+use mathlib.Core.Path.{_≡_, refl}
 use mathlib.Core.Bool.{Bool, true, false, cond, _&&_}
 use Prim.Native.Nat.{ℕ, _^_, _<_}
 use native.Mathlib.Omega.{arith}

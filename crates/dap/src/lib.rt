@@ -1,61 +1,36 @@
 // Duplicate-add-parity: two copies of up to 64 bytes and the parity of one, by which a single damaged bit is found.
 ghost use mathlib.Core.Path.{_≡_};
 ghost use mathlib.Core.Bool.{_&&_};
-ghost use mathlib.Core.List.{[], _++_};
+ghost use mathlib.Core.List.{_++_};
 ghost use Prim.Native.Nat.{_≤_};
 ghost use lib.Dec.{leb};
 ghost use lib.ListN.{length, drop};
-ghost use denote.Ref.{ptr};
 ghost use Rattle.dap.specs.Copies.{mostCopied, weight, diffs};
-ghost use Rattle.dap.specs.Calls.{madeNumber, numberOf, judgement, Makes, Judges, Hands};
+ghost use Rattle.dap.specs.Answers.{judged};
+ghost use Rattle.dap.specs.Calls as calls;
+ghost use Rattle.dap.specs.Calls.{Makes, Judges, Empty, Hands};
+ghost use Rattle.dap.specs.Parts.{judgement};
 
 // The bytes of a copy at most.
 const MOST_COPIED: usize = 64;
 
-// The parity of what was copied, or row 12.
+// The parity of what was copied.
 pub enum Made {
     Parity(u8),
-    NotMade,
+    Refused(u8),
 }
 
-// What is damaged; or rows 12, 11 and 17.
 pub enum Damage {
     Nothing,
     FirstCopy,
     SecondCopy,
     ParityNumber,
-    WrongLength,
-    NoParity,
-    TooManyBits,
 }
 
-impl Made {
-    // The paper's number of the answer, 0 where it is a parity.
-    pub fn number(self) -> u8
-        ensures { λ r. ⌜ r ≡ madeNumber self ⌝ }
-    {
-        match self {
-            Made::Parity(_) => 0,
-            Made::NotMade => paper::UNFIT,
-        }
-    }
-}
-
-impl Damage {
-    // The number of the verdict: 0 to 3 for what is damaged, or the paper's refusal.
-    pub fn number(self) -> u8
-        ensures { λ r. ⌜ r ≡ numberOf self ⌝ }
-    {
-        match self {
-            Damage::Nothing => 0,
-            Damage::FirstCopy => 1,
-            Damage::SecondCopy => 2,
-            Damage::ParityNumber => 3,
-            Damage::WrongLength => paper::UNFIT,
-            Damage::NoParity => paper::OUTSIDE,
-            Damage::TooManyBits => paper::TOO_MANY_BITS,
-        }
-    }
+// What is damaged among two copies and their parity.
+pub enum Judged {
+    Found(Damage),
+    Refused(u8),
 }
 
 // The ones of a copy.
@@ -126,7 +101,7 @@ pub fn make(data: &[u8], first: &mut [u8], second: &mut [u8]) -> Made
     ensures { λ r. ⌜ Makes (now («data» .entry)) (now (first .entry)) (now (second .entry)) r (now (first .exit)) (now (second .exit)) ⌝ }
 {
     if !lengths_fit(data.len(), first.len(), second.len()) {
-        return Made::NotMade;
+        return Made::Refused(paper::UNFIT);
     }
     copy(data, first);
     copy(data, second);
@@ -134,43 +109,55 @@ pub fn make(data: &[u8], first: &mut [u8], second: &mut [u8]) -> Made
 }
 
 // What is damaged, by how many bits differ and whether the parity of the first copy agrees.
-fn judged(apart: u32, agrees: bool) -> Damage
-    ensures { λ r. ⌜ numberOf r ≡ judgement apart agrees ⌝ }
+fn judge(apart: u32, agrees: bool) -> Judged
+    ensures { λ r. ⌜ judged r ≡ judgement apart agrees ⌝ }
 {
     if 1 < apart {
-        return Damage::TooManyBits;
+        return Judged::Refused(paper::TOO_MANY_BITS);
     }
     if apart == 0 {
         if agrees {
-            return Damage::Nothing;
+            return Judged::Found(Damage::Nothing);
         }
-        return Damage::ParityNumber;
+        return Judged::Found(Damage::ParityNumber);
     }
     if agrees {
-        return Damage::SecondCopy;
+        return Judged::Found(Damage::SecondCopy);
     }
-    Damage::FirstCopy
+    Judged::Found(Damage::FirstCopy)
 }
 
 // What is damaged among two copies and their parity.
-pub fn verdict(a: &[u8], b: &[u8], parity: u8) -> Damage
+pub fn verdict(a: &[u8], b: &[u8], parity: u8) -> Judged
     ensures { λ r. ⌜ Judges (now (a .entry)) (now (b .entry)) parity r ⌝ }
 {
     if !sized(a.len()) {
-        return Damage::WrongLength;
+        return Judged::Refused(paper::UNFIT);
     }
     if a.len() != b.len() {
-        return Damage::WrongLength;
+        return Judged::Refused(paper::UNFIT);
     }
     if 1 < parity {
-        return Damage::NoParity;
+        return Judged::Refused(paper::OUTSIDE);
     }
-    judged(differing(a, b), weigh(a) % 2 == parity as u32)
+    judge(differing(a, b), weigh(a) % 2 == parity as u32)
+}
+
+// The copy that is good.
+fn undamaged<'a>(damage: Damage, a: &'a [u8], b: &'a [u8]) -> &'a [u8]
+    ensures { λ r. ⌜ r ≡ calls.good damage (a .entry) (b .entry) ⌝ }
+{
+    match damage {
+        Damage::Nothing => a,
+        Damage::FirstCopy => b,
+        Damage::SecondCopy => a,
+        Damage::ParityNumber => a,
+    }
 }
 
 // The empty part of a slice, at its start.
 fn empty_part<'a>(a: &'a [u8]) -> &'a [u8]
-    ensures { λ r. ⌜ (now r ≡ []) × (ptr r ≡ ptr (a .entry)) ⌝ }
+    ensures { λ r. ⌜ Empty (a .entry) r ⌝ }
 {
     &a[0..0]
 }
@@ -180,12 +167,7 @@ pub fn good<'a>(a: &'a [u8], b: &'a [u8], parity: u8) -> &'a [u8]
     ensures { λ r. ⌜ Hands (a .entry) (b .entry) parity r ⌝ }
 {
     match verdict(a, b, parity) {
-        Damage::Nothing => a,
-        Damage::FirstCopy => b,
-        Damage::SecondCopy => a,
-        Damage::ParityNumber => a,
-        Damage::WrongLength => empty_part(a),
-        Damage::NoParity => empty_part(a),
-        Damage::TooManyBits => empty_part(a),
+        Judged::Found(damage) => undamaged(damage, a, b),
+        Judged::Refused(_) => empty_part(a),
     }
 }

@@ -1,7 +1,6 @@
 -- `in_range` is the test of row 11: each answer by the tests that led there.
 use mathlib.Core.Path.{sym, subst}
 use Prim.Native.Nat.{ℕ, _≤_, _<_}
-use native.Mathlib.Omega.{arith}
 use borrow.Author.Needs.{needs}
 use borrow.Author.Tests.{le-ltb, le-leb, lt-leb}
 use Rattle.bus.proofs.Range.{past-wires, shifted}

@@ -1,83 +1,56 @@
 -- `good` hands back the part that goes with the verdict it was told.
-use mathlib.Core.Path.{refl}
+use mathlib.Core.Path.{_≡_, sym, ap, _∙_, subst}
+use mathlib.Core.List.{List}
+use Prim.Native.Nat.{ℕ}
 use borrow.Author.Needs.{needs}
-use Rattle.dap.proofs.Answers.{hands}
+use denote.Ref.{RefT, now}
+use Rattle.paper.specs.Answer.{Answer}
+use Rattle.dap.specs.declared.Damage.{Damage}
+use Rattle.dap.specs.declared.Judged.{Judged}
+use Rattle.dap.specs.Answers.{judged}
+use Rattle.dap.specs.Calls.{Judges, Part, Hands}
 use Rattle.dap.proofs.good.Statement.{statement}
 use Rattle.dap.proofs.good.Tie as tie
 
 verdict-requires : tie.Need-verdict-requires
 verdict-requires c κs = search needs
 
+enum-known-damage : tie.Need-enum-known-damage
+enum-known-damage c = search needs
+
+undamaged-requires : tie.Need-undamaged-requires
+undamaged-requires c κs = search needs
+
 enum-told : tie.Need-enum-told
 enum-told c = search needs
-
-enum-told-2 : tie.Need-enum-told-2
-enum-told-2 c = search needs
-
-enum-told-3 : tie.Need-enum-told-3
-enum-told-3 c = search needs
-
-enum-told-4 : tie.Need-enum-told-4
-enum-told-4 c = search needs
-
-enum-told-5 : tie.Need-enum-told-5
-enum-told-5 c = search needs
 
 empty-part-requires : tie.Need-empty-part-requires
 empty-part-requires c κs = search needs
 
-enum-told-6 : tie.Need-enum-told-6
-enum-told-6 c = search needs
-
-empty-part-requires-2 : tie.Need-empty-part-requires-2
-empty-part-requires-2 c κs = search needs
-
-enum-told-7 : tie.Need-enum-told-7
-enum-told-7 c = search needs
-
-empty-part-requires-3 : tie.Need-empty-part-requires-3
-empty-part-requires-3 c κs = search needs
+-- the part that goes with the verdict v goes with what was owed
+hands : (a b r : RefT (List ℕ)) (p : ℕ) {v w : Judged} → w ≡ v → Judges (now a) (now b) p w → Part (judged v) a b r → Hands a b p r
+hands a b r p e j = subst (λ (x : Answer Damage). Part x a b r) (sym (ap judged e) ∙ j)
 
 returns : tie.Need-returns
-returns c = hands (c .enum-told .given .1) (c .before .before .verdict .ensures) refl
+returns c =
+    let m = c .before .before in
+    let q = m .before .before .before .before .before .args in
+    hands (q .a) (q .b) (c .undamaged .result) (q .parity) (m .damage .given .1) (m .before .before .verdict .ensures) (c .undamaged .ensures)
 
 returns-2 : tie.Need-returns-2
-returns-2 c = hands (c .enum-told2 .given .1) (c .before .before .verdict .ensures) refl
-
-returns-3 : tie.Need-returns-3
-returns-3 c = hands (c .enum-told3 .given .1) (c .before .before .verdict .ensures) refl
-
-returns-4 : tie.Need-returns-4
-returns-4 c = hands (c .enum-told4 .given .1) (c .before .before .verdict .ensures) refl
-
-returns-5 : tie.Need-returns-5
-returns-5 c = hands (c .before .enum-told5 .given .1) (c .before .before .before .verdict .ensures) (c .empty-part .ensures)
-
-returns-6 : tie.Need-returns-6
-returns-6 c = hands (c .before .enum-told6 .given .1) (c .before .before .before .verdict .ensures) (c .empty-part2 .ensures)
-
-returns-7 : tie.Need-returns-7
-returns-7 c = hands (c .before .enum-told7 .given .1) (c .before .before .before .verdict .ensures) (c .empty-part3 .ensures)
+returns-2 c =
+    let v = c .before .before .before in
+    let q = v .before .before .before .args in
+    hands (q .a) (q .b) (c .empty-part .result) (q .parity) (c .before .enum-told .given .1) (v .verdict .ensures) (c .empty-part .ensures)
 
 pub good-spec : {M : Type 1} → statement M
 good-spec =
     tie.close
     (tie.spec
     verdict-requires
+    enum-known-damage
+    undamaged-requires
     enum-told
-    enum-told-2
-    enum-told-3
-    enum-told-4
-    enum-told-5
     empty-part-requires
-    enum-told-6
-    empty-part-requires-2
-    enum-told-7
-    empty-part-requires-3
     returns
-    returns-2
-    returns-3
-    returns-4
-    returns-5
-    returns-6
-    returns-7)
+    returns-2)

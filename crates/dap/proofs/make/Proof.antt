@@ -1,13 +1,11 @@
 -- `make` tests the lengths, then copies twice and weighs.
-use mathlib.Core.Path.{_≡_, refl, sym, ap, _∙_}
+use mathlib.Core.Path.{_≡_, refl, sym, _∙_}
 use mathlib.Core.Bool.{true, _&&_}
-use mathlib.Core.List.{List}
-use Prim.Native.Nat.{ℕ, _%_, _≤_}
+use Prim.Native.Nat.{ℕ, _≤_}
 use borrow.Author.Needs.{needs}
 use borrow.Author.Tests.{not-true, not-false, leb-true}
 use lib.Dec.{leb}
 use lib.ListN.{length}
-use Rattle.paper.specs.Numbers.{unfit, unless}
 use Rattle.laws.proofs.Truth.{two}
 use Rattle.dap.proofs.make.Statement.{statement}
 use Rattle.dap.proofs.make.Tie as tie
@@ -17,7 +15,7 @@ lengths-fit-requires c κs = search needs
 
 returns : tie.Need-returns
 returns c =
-    record { number = ap (unless unfit) (sym (not-true _ (c .if1 .taken)) ∙ c .before .lengths-fit .ensures); parity = tt; first = refl; second = refl }
+    record { answer = simp (sym (c .before .lengths-fit .ensures) ∙ not-true _ (c .if1 .taken)); first = refl; second = refl }
 
 -- what the tests of the lengths say
 record Fit (n first second : ℕ) : Type 0 where
@@ -59,8 +57,7 @@ returns-2 c =
     let h = k .before .before .before .before in
     let e = h .before .before in
     record {
-      number = ap (unless unfit) (sym (not-false _ (e .if1 .left)) ∙ e .before .lengths-fit .ensures);
-      parity = ap (λ (n : ℕ). n % 2) (c .weigh .ensures);
+      answer = simp (sym (e .before .lengths-fit .ensures) ∙ not-false _ (e .if1 .left), c .weigh .ensures);
       first = h .copy .ensures;
       second = k .copy2 .ensures;
     }

@@ -1,6 +1,5 @@
 -- `sized` tests both bounds.
 use borrow.Author.Tests.{le-leb, lt-leb}
-use borrow.Author.Needs.{needs}
 use Rattle.dap.proofs.sized.Statement.{statement}
 use Rattle.dap.proofs.sized.Tie as tie
 

@@ -1,6 +1,6 @@
 -- `verdict` goes through the refusals in the paper's order, then judges.
 use mathlib.Core.Path.{_≡_, sym, ap, ap₂, _∙_}
-use mathlib.Core.Bool.{Bool, true, _&&_}
+use mathlib.Core.Bool.{true, _&&_}
 use Prim.Native.Nat.{ℕ, _%_, _≤_}
 use borrow.Author.Needs.{needs}
 use borrow.Author.Tests.{lt-ltb, le-ltb, eq-eqb, ne-eqb, not-true, not-false, leb-true}
@@ -8,7 +8,8 @@ use lib.Dec.{leb, eqb}
 use lib.ListN.{length}
 use Rattle.laws.proofs.Truth.{two}
 use Rattle.dap.specs.Copies.{parityOf, diffs}
-use Rattle.dap.specs.Calls.{judgement, verdictNumber}
+use Rattle.dap.specs.Calls.{owedOn}
+use Rattle.dap.specs.Parts.{judgement}
 use Rattle.dap.proofs.verdict.Statement.{statement}
 use Rattle.dap.proofs.verdict.Tie as tie
 
@@ -37,13 +38,13 @@ differing-requires c κs = (most (c .before .before), c .before .if2 .left)
 weigh-requires : tie.Need-weigh-requires
 weigh-requires c κs = most (c .before .before .before)
 
-judged-requires : tie.Need-judged-requires
-judged-requires c κs = search needs
+judge-requires : tie.Need-judge-requires
+judge-requires c κs = search needs
 
 -- nothing is refused
 past : (c : tie.Else3)
     → let a = c .before .before .before .before .before .before .args in
-    verdictNumber (a .a .now) (a .b .now) (a .parity) ≡ judgement (diffs (a .a .now) (a .b .now)) (eqb (parityOf (a .a .now)) (a .parity))
+    owedOn (a .a .now) (a .b .now) (a .parity) ≡ judgement (diffs (a .a .now) (a .b .now)) (eqb (parityOf (a .a .now)) (a .parity))
 past c = simp (some (c .before .before), eq-eqb _ _ (c .before .if2 .left), le-ltb _ _ (c .if3 .left))
 
 returns-4 : tie.Need-returns-4
@@ -51,7 +52,7 @@ returns-4 c =
     let w = c .before in
     let d = w .before in
     let p = d .before .before .before .before .before .before .before .args .parity in
-    c .judged .ensures ∙ ap₂ judgement (d .differing .ensures) (ap (λ (n : ℕ). eqb (n % 2) p) (w .weigh .ensures)) ∙ sym (past (d .before))
+    c .judge .ensures ∙ ap₂ judgement (d .differing .ensures) (ap (λ (n : ℕ). eqb (n % 2) p) (w .weigh .ensures)) ∙ sym (past (d .before))
 
 pub verdict-spec : {M : Type 1} → statement M
 verdict-spec =
@@ -63,5 +64,5 @@ verdict-spec =
     returns-3
     differing-requires
     weigh-requires
-    judged-requires
+    judge-requires
     returns-4)

@@ -1,6 +1,6 @@
 -- `send` tests the state, then the data, then goes by the rule.
 use mathlib.Core.Path.{_≡_, sym, ap, _∙_}
-use mathlib.Core.Bool.{true, false}
+use mathlib.Core.Bool.{true}
 use borrow.Author.Needs.{needs}
 use borrow.Author.Tests.{not-true, not-false}
 use Rattle.bus.specs.Rule.{plain, inRange, crowded}

@@ -15,9 +15,8 @@ use Rattle.laws.proofs.Xor.{bit-lt}
 use Rattle.laws.specs.Bits.{bit}
 use Rattle.block.specs.Symbols.{member, gap}
 use Rattle.block.specs.Blocks.{symbol, Lawful, blockOf, flips, Near}
-use Rattle.block.specs.Inside.{nearOf, kindOf}
 use Rattle.block.specs.Claims.{NeverASecond}
-use Rattle.block.specs.Found.{choice, near₀, near₁, near₂, near₃, total, sides}
+use Rattle.block.specs.Parts.{nearOf, kindOf, choice, near₀, near₁, near₂, near₃, total, sides}
 use Rattle.block.proofs.Laws.{all-five, each-of-four, ap₄}
 use Rattle.block.proofs.Tables.{agree, erased, near-sound, close, kind-le, solved-lt, solve-whole}
 use Rattle.block.proofs.Parts.{symbol-lt, bits, part₀, part₁, part₂, part₃, bit₀, bit₁, bit₂, bit₃}

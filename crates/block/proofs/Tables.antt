@@ -21,7 +21,7 @@ use lib.ListN.{getD}
 use Rattle.laws.proofs.Truth.{and-l, and-r, implied}
 use Rattle.laws.proofs.Computed.{upto, below}
 use Rattle.block.specs.Symbols.{member, gap}
-use Rattle.block.specs.Inside.{nearOf, kindOf, solved, Pairs, Kinds, Rows}
+use Rattle.block.specs.Parts.{nearOf, kindOf, solved, Pairs, Kinds, Rows}
 use Rattle.block.proofs.Laws.{below₂}
 
 abbrev pub agree : ℕ → ℕ → Bool

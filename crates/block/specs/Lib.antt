@@ -1,5 +1,4 @@
 pub mod Symbols
 pub mod Blocks
-pub mod Inside
-pub mod Found
+pub mod Parts
 pub mod Claims

@@ -7,28 +7,32 @@ use mathlib.Core.Path.{_≡_, refl, ap, ap₂, _∙_, subst}
 use mathlib.Core.Bool.{Bool, true, false, cond}
 use Prim.Native.Nat.{ℕ, _+_}
 use native.Mathlib.Omega.{arith}
-use borrow.Author.Tests.{eq-eqb, eqb-false, ltb-true}
+use borrow.Author.Tests.{eq-eqb, ltb-true}
+use lib.Dec.{ltb}
 use Rattle.hier.specs.declared.Reading.the-variants.{Word}
 use Rattle.laws.specs.Bits.{bit, unlike}
 use Rattle.block.specs.Symbols.{gap}
-use Rattle.block.specs.Blocks.{symbol, flips, Near}
+use Rattle.block.specs.Blocks.{symbol, codeOf, flips, Near}
 use Rattle.paper.specs.Numbers.{outside, unless}
+use Rattle.paper.specs.Answer.{gives, owed}
+use Rattle.paper.proofs.Answer.{gives-one, never-both}
 use Rattle.hier.specs.Claims.{Mends, RoundTrip}
-use Rattle.hier.proofs.Answers.{reads-word, one-read}
+use Rattle.hier.proofs.Answers.{one-read}
 
-accepted : (t : Bool) → 0 ≡ (unless outside) t → t ≡ true
-accepted true e = refl
-accepted false e = absurd (eqb-false 0 11 refl e)
+-- where `make` answered, the data was in range, and the block is its code
+accepted : (t : Bool) (l k : ℕ) → gives l ≡ owed (unless outside t) k → (t ≡ true) × (l ≡ k)
+accepted true l k e = (refl, gives-one l k e)
+accepted false l k e = absurd (never-both l outside e)
 
 pub mends : Mends
 mends d l b r m n x =
-    one-read b r (Word d (flips b l)) x
-    (reads-word
+    let a = accepted (ltb d 128) l (codeOf d) m in
+    one-read b r (Word (record { «data» = d; flips = flips b l })) x
     (record {
-      below = ltb-true d 128 (accepted _ (m .number));
-      near = subst (Near b) (m .block) n;
-      count = ap (flips b) (m .block);
-    }))
+      below = ltb-true d 128 (a .0);
+      near = subst (Near b) (a .1) n;
+      count = ap (flips b) (a .1);
+    })
 
 same-bit : (a : ℕ) → unlike a a ≡ 0
 same-bit a = ap (λ (t : Bool). cond t 0 1) (eq-eqb a a refl)
@@ -47,4 +51,4 @@ near-self : (b : ℕ) → Near b b
 near-self b = record { one = λ i h. omega (arith, gap-self (symbol b i)); two = omega (arith, flips-self b) }
 
 pub round-trip : RoundTrip
-round-trip d l r m x = mends d l l r m (near-self l) x ∙ ap (Word d) (flips-self l)
+round-trip d l r m x = mends d l l r m (near-self l) x ∙ ap (λ (n : ℕ). Word (record { «data» = d; flips = n })) (flips-self l)

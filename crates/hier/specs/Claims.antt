@@ -26,7 +26,7 @@ abbrev pub OneRead : Type 0
 OneRead = (b : ℕ) (r s : Reading) → Reads b r → Reads b s → r ≡ s
 
 abbrev pub Mends : Type 0
-Mends = (d l b : ℕ) (r : Reading) → Makes d (Block l) → Near b l → Reads b r → r ≡ Word d (flips b l)
+Mends = (d l b : ℕ) (r : Reading) → Makes d (Block l) → Near b l → Reads b r → r ≡ Word (record { «data» = d; flips = flips b l })
 
 abbrev pub RoundTrip : Type 0
-RoundTrip = (d l : ℕ) (r : Reading) → Makes d (Block l) → Reads l r → r ≡ Word d 0
+RoundTrip = (d l : ℕ) (r : Reading) → Makes d (Block l) → Reads l r → r ≡ Word (record { «data» = d; flips = 0 })

@@ -1,33 +1,48 @@
 // What the reader finds in a block: the subsets of the lawful block that is near, and how far each symbol is from its member.
 ghost use mathlib.Core.Path.{_≡_};
 ghost use Prim.Native.Nat.{_<_, _≤_};
-ghost use Rattle.block.specs.Inside.{solved};
-ghost use Rattle.block.specs.Found.{choice, halves, digits};
-ghost use Rattle.hier.specs.Inside.{Small, NearsOf};
+ghost use Rattle.block.specs.Parts.{firstOf, secondOf, solved, choice, halves, digits};
+ghost use Rattle.hier.specs.Parts.{Small, NearsOf};
 use crate::symbols::kind;
 use crate::symbols::nearest;
 
-// 3 u + w from the first two symbols that were received whole.
+// u, the subset of the first symbol, from the first two symbols that were received whole.
+fn first_subset(k0: u16, k1: u16, k2: u16, k3: u16) -> u16
+    requires { ⌜ (k0 ≤ 3) × ((k1 ≤ 3) × ((k2 ≤ 3) × (k3 ≤ 3))) ⌝ }
+    ensures { λ r. ⌜ (r ≡ firstOf k0 k1 k2 k3) × (r < 3) ⌝ }
+{
+    if k0 < 3 {
+        return k0;
+    }
+    if 3 <= k1 {
+        return 2 * (k2 + k3) % 3;
+    }
+    if k2 < 3 {
+        return (k2 + 2 * k1) % 3;
+    }
+    (k3 + k1) % 3
+}
+
+// w, the subset of the second symbol, from u and the next symbol that was received whole.
+fn second_subset(u: u16, k1: u16, k2: u16, k3: u16) -> u16
+    requires { ⌜ (u < 3) × ((k1 ≤ 3) × ((k2 ≤ 3) × (k3 ≤ 3))) ⌝ }
+    ensures { λ r. ⌜ (r ≡ secondOf u k1 k2 k3) × (r < 3) ⌝ }
+{
+    if k1 < 3 {
+        return k1;
+    }
+    if k2 < 3 {
+        return (k2 + 2 * u) % 3;
+    }
+    (u + 2 * k3) % 3
+}
+
 fn solve(k0: u16, k1: u16, k2: u16, k3: u16) -> u16
     requires { ⌜ (k0 ≤ 3) × ((k1 ≤ 3) × ((k2 ≤ 3) × (k3 ≤ 3))) ⌝ }
     ensures { λ r. ⌜ (r ≡ solved k0 k1 k2 k3) × (r < 9) ⌝ }
 {
-    if k0 < 3 {
-        if k1 < 3 {
-            return 3 * k0 + k1;
-        }
-        if k2 < 3 {
-            return 3 * k0 + (3 + k2 - k0) % 3;
-        }
-        return 3 * k0 + 2 * (3 + k3 - k0) % 3;
-    }
-    if k1 < 3 {
-        if k2 < 3 {
-            return (3 + k2 - k1) % 3 * 3 + k1;
-        }
-        return (k3 + k1) % 3 * 3 + k1;
-    }
-    (3 + 2 * k2 - k3) % 3 * 3 + (3 + k3 - k2) % 3
+    let u = first_subset(k0, k1, k2, k3);
+    3 * u + second_subset(u, k1, k2, k3)
 }
 
 // 3 u + w of a block, by the symbols that came whole. A symbol with two ones is taken as it is: no other is within one bit of it.

@@ -1,48 +1,27 @@
 // The hierarchical code 4c2 on four wires: seven data bits as four symbols of two ones each, and back with up to two flips.
-ghost use mathlib.Core.Path.{_≡_};
-ghost use Rattle.hier.specs.Calls.{codedNumber, numberOf, Makes, Reads};
+ghost use Rattle.hier.specs.Calls.{Makes, Reads};
 
 mod found;
 mod symbols;
 
 use symbols::symbol_of;
 
-// The block of the data, or row 11.
+// The block of the data.
 pub enum Coded {
     Block(u16),
-    NotMade,
+    Refused(u8),
 }
 
-// The data and the number of bits flipped; or row 15, no lawful block is near; or row 16, the one that is has v = 8.
+pub struct Decoded {
+    pub data: u8,
+    // bits
+    pub flips: u8,
+}
+
+// What stands in sixteen bits.
 pub enum Reading {
-    Word(u8, u8),
-    NoBlock,
-    Eighth,
-}
-
-impl Coded {
-    // The paper's number of the answer, 0 where it is a block.
-    pub fn number(self) -> u8
-        ensures { λ r. ⌜ r ≡ codedNumber self ⌝ }
-    {
-        match self {
-            Coded::Block(_) => 0,
-            Coded::NotMade => paper::OUTSIDE,
-        }
-    }
-}
-
-impl Reading {
-    // The paper's number of the answer, 0 where it is data.
-    pub fn number(self) -> u8
-        ensures { λ r. ⌜ r ≡ numberOf self ⌝ }
-    {
-        match self {
-            Reading::Word(_, _) => 0,
-            Reading::NoBlock => paper::NO_BLOCK,
-            Reading::Eighth => paper::EIGHTH,
-        }
-    }
+    Word(Decoded),
+    Refused(u8),
 }
 
 // Data is a number below it.
@@ -53,7 +32,7 @@ pub fn make(data: u8) -> Coded
     ensures { λ r. ⌜ Makes «data» r ⌝ }
 {
     if DATA_END <= data {
-        return Coded::NotMade;
+        return Coded::Refused(paper::OUTSIDE);
     }
     let d = data as u16;
     let u = d / 16 / 3;
@@ -74,10 +53,13 @@ pub fn read(block: u16) -> Reading
     let n = found::near_each(v, block);
     let flips = found::flips_in(n);
     if 2 < flips {
-        return Reading::NoBlock;
+        return Reading::Refused(paper::NO_BLOCK);
     }
     if v == 8 {
-        return Reading::Eighth;
+        return Reading::Refused(paper::EIGHTH);
     }
-    Reading::Word((v * 16 + found::sides_in(n)) as u8, flips as u8)
+    Reading::Word(Decoded {
+        data: (v * 16 + found::sides_in(n)) as u8,
+        flips: flips as u8,
+    })
 }

@@ -13,6 +13,8 @@
 use mathlib.Core.Path.{_≡_}
 use mathlib.Core.List.{[], _∷_}
 use Prim.Native.Nat.{ℕ, _-_, _^_}
+use Rattle.paper.specs.Answer as paper
+use Rattle.paper.specs.Answer.{gives}
 use Rattle.reader.specs.Answers.{Answer, word, refused, answer}
 use Rattle.reader.specs.Reads.{Reads}
 use Rattle.maker.specs.Makes.{Makes}
@@ -20,10 +22,11 @@ use Rattle.maker.specs.declared.Making.{Making}
 use Rattle.maker.specs.declared.Making.the-variants.{Frame}
 use Rattle.reader.specs.declared.Reading.{Reading}
 use Rattle.hier.specs.Calls as hier
+use Rattle.hier.specs.Answers.{coded, reading}
 use Rattle.hier.specs.declared.Coded.{Coded}
-use Rattle.hier.specs.declared.Coded.the-variants.{Block}
 use Rattle.hier.specs.declared.Reading.{Reading as hier-Reading}
-use Rattle.hier.specs.declared.Reading.the-variants.{Word}
+use Rattle.bus.specs.Rule.{state}
+use Rattle.bus.specs.Answers.{driven}
 use Rattle.bus.specs.Calls.{Starts, Sends}
 use Rattle.bus.specs.declared.Bus.{Bus}
 use Rattle.bus.specs.declared.Driven.{Driven}
@@ -36,19 +39,19 @@ abbrev pub reads : ℕ → Answer → Type 0
 reads f a = (r : Reading) → Reads f (answer r) → answer r ≡ a
 
 abbrev pub codes : ℕ → ℕ → Type 0
-codes d b = (m : Coded) → hier.Makes d m → m ≡ Block b
+codes d b = (m : Coded) → hier.Makes d m → coded m ≡ gives b
 
 abbrev pub uncoded : ℕ → ℕ → Type 0
-uncoded d n = (m : Coded) → hier.Makes d m → hier.codedNumber m ≡ n
+uncoded d n = (m : Coded) → hier.Makes d m → coded m ≡ paper.refused n
 
 abbrev pub decodes : ℕ → ℕ → ℕ → Type 0
-decodes b d n = (r : hier-Reading) → hier.Reads b r → r ≡ Word d n
+decodes b d n = (r : hier-Reading) → hier.Reads b r → reading r ≡ gives (record { «data» = d; flips = n })
 
 abbrev pub undecoded : ℕ → ℕ → Type 0
-undecoded b n = (r : hier-Reading) → hier.Reads b r → hier.numberOf r ≡ n
+undecoded b n = (r : hier-Reading) → hier.Reads b r → reading r ≡ paper.refused n
 
 abbrev pub sends : ℕ → ℕ → ℕ → Type 0
-sends y x v = (b : Bus) (r : Driven) → Starts 4 (Now b) → Sends b y r → r ≡ Now (record { width = 4; wires = x; invert = v })
+sends y x v = (b : Bus) (r : Driven) → Starts 4 (Now b) → Sends b y r → driven r ≡ gives (state 4 x v)
 
 pub record Rows : Type 0 where
   -- data 0: frame 0000800040003565

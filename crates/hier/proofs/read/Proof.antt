@@ -3,22 +3,12 @@ use mathlib.Core.Path.{_≡_, sym, ap, ap₂, _∙_, subst}
 use Prim.Native.Nat.{ℕ, _+_, _*_, _≤_, _<_}
 use native.Mathlib.Omega.{arith}
 use borrow.Author.Needs.{needs}
-use Rattle.hier.specs.declared.Reading.the-variants.{Word}
-use Rattle.hier.specs.Calls.{Reads}
-use Rattle.block.specs.Found.{near₀, near₁, near₂, near₃, halves, digits, total}
+use Rattle.hier.specs.Calls.{ReadAs}
+use Rattle.block.specs.Parts.{near₀, near₁, near₂, near₃, halves, digits, total}
 use Rattle.block.proofs.Laws.{ap₄}
-use Rattle.hier.proofs.Answers.{word, none, eighth}
+use Rattle.hier.proofs.Answers.{word, none, eighth-near}
 use Rattle.hier.proofs.read.Statement.{statement}
 use Rattle.hier.proofs.read.Tie as tie
-
-chosen-requires : tie.Need-chosen-requires
-chosen-requires c κs = search needs
-
-near-each-requires : tie.Need-near-each-requires
-near-each-requires c κs = search needs
-
-flips-in-requires : tie.Need-flips-in-requires
-flips-in-requires c κs = search needs
 
 -- what is made of the four numbers is made of those of the definition
 alike : (c : tie.After-near-each) (f : ℕ → ℕ → ℕ → ℕ → ℕ)
@@ -41,22 +31,7 @@ few : (c : tie.Else1) → total (c .before .before .before .before .args .block)
 few c = subst (λ (n : ℕ). n ≤ 2) (flipped (c .before)) (c .if1 .left)
 
 returns-2 : tie.Need-returns-2
-returns-2 c = eighth _ _ (c .if2 .taken) (few (c .before))
-
-mul-t6 : tie.Need-mul-t6
-mul-t6 c = search needs
-
-sides-in-requires : tie.Need-sides-in-requires
-sides-in-requires c κs = search needs
-
-add-t8 : tie.Need-add-t8
-add-t8 c = search needs
-
-cast-t9 : tie.Need-cast-t9
-cast-t9 c = search needs
-
-cast-t10 : tie.Need-cast-t10
-cast-t10 c = search needs
+returns-2 c = eighth-near _ _ (c .if2 .taken) (few (c .before))
 
 returns-3 : tie.Need-returns-3
 returns-3 c =
@@ -65,21 +40,22 @@ returns-3 c =
     let s = f .before .before in
     let b = s .before .args .block in
     let v = s .chosen .result in
-    subst (Reads b) (sym (ap₂ Word (ap (λ (n : ℕ). v * 16 + n) (c .sides-in .ensures .0 ∙ alike (f .before) digits)) (flipped f)))
+    subst (ReadAs b)
+    (sym (ap₂ (λ (d n : ℕ). record { «data» = d; flips = n }) (ap (λ (n : ℕ). v * 16 + n) (c .sides-in .ensures .0 ∙ alike (f .before) digits)) (flipped f)))
     (word b v (omega (arith, c .before .if2 .left, s .chosen .ensures .1)) (few q))
 
 pub read-spec : {M : Type 1} → statement M
 read-spec =
     tie.close
     (tie.spec
-    chosen-requires
-    near-each-requires
-    flips-in-requires
+    (search needs)
+    (search needs)
+    (search needs)
     returns
     returns-2
-    mul-t6
-    sides-in-requires
-    add-t8
-    cast-t9
-    cast-t10
+    (search needs)
+    (search needs)
+    (search needs)
+    (search needs)
+    (search needs)
     returns-3)

@@ -3,25 +3,10 @@ use mathlib.Core.Path.{sym, ap, _∙_}
 use Prim.Native.Nat.{ℕ, _%_}
 use native.Mathlib.Nat.{div-one}
 use borrow.Author.Needs.{needs}
-use Rattle.block.specs.Inside.{kindOf, solved}
+use Rattle.block.specs.Parts.{kindOf, solved}
 use Rattle.block.proofs.Laws.{ap₄}
 use Rattle.hier.proofs.found.chosen.Statement.{statement}
 use Rattle.hier.proofs.found.chosen.Tie as tie
-
-kind-requires : tie.Need-kind-requires
-kind-requires c κs = search needs
-
-kind-requires-2 : tie.Need-kind-requires-2
-kind-requires-2 c κs = search needs
-
-kind-requires-3 : tie.Need-kind-requires-3
-kind-requires-3 c κs = search needs
-
-kind-requires-4 : tie.Need-kind-requires-4
-kind-requires-4 c κs = search needs
-
-solve-requires : tie.Need-solve-requires
-solve-requires c κs = search needs
 
 returns : tie.Need-returns
 returns c =
@@ -36,4 +21,4 @@ returns c =
 pub chosen-spec : {M : Type 1} → statement M
 chosen-spec =
     tie.close
-    (tie.spec kind-requires kind-requires-2 kind-requires-3 kind-requires-4 solve-requires returns)
+    (tie.spec (search needs) (search needs) (search needs) (search needs) (search needs) returns)

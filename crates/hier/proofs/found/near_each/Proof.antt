@@ -3,30 +3,9 @@ use mathlib.Core.Path.{sym, ap, _∙_}
 use Prim.Native.Nat.{ℕ, _+_, _*_, _/_, _%_}
 use native.Mathlib.Nat.{div-one}
 use borrow.Author.Needs.{needs}
-use Rattle.block.specs.Inside.{nearOf}
+use Rattle.block.specs.Parts.{nearOf}
 use Rattle.hier.proofs.found.near_each.Statement.{statement}
 use Rattle.hier.proofs.found.near_each.Tie as tie
-
-nearest-requires : tie.Need-nearest-requires
-nearest-requires c κs = search needs
-
-nearest-requires-2 : tie.Need-nearest-requires-2
-nearest-requires-2 c κs = search needs
-
-add-nearest : tie.Need-add-nearest
-add-nearest c = search needs
-
-nearest-requires-3 : tie.Need-nearest-requires-3
-nearest-requires-3 c κs = search needs
-
-mul-nearest : tie.Need-mul-nearest
-mul-nearest c = search needs
-
-add-nearest-2 : tie.Need-add-nearest-2
-add-nearest-2 c = search needs
-
-nearest-requires-4 : tie.Need-nearest-requires-4
-nearest-requires-4 c κs = search needs
 
 returns : tie.Need-returns
 returns c =
@@ -51,11 +30,11 @@ pub near-each-spec : {M : Type 1} → statement M
 near-each-spec =
     tie.close
     (tie.spec
-    nearest-requires
-    nearest-requires-2
-    add-nearest
-    nearest-requires-3
-    mul-nearest
-    add-nearest-2
-    nearest-requires-4
+    (search needs)
+    (search needs)
+    (search needs)
+    (search needs)
+    (search needs)
+    (search needs)
+    (search needs)
     returns)

@@ -1,5 +1,5 @@
 -- `kinds`: the constant passes its test.
-use Rattle.block.specs.Inside.{kindOf}
+use Rattle.block.specs.Parts.{kindOf}
 use Rattle.block.proofs.Tables.{kind?, is-kinds}
 use Rattle.hier.proofs.symbols.kinds.Statement.{statement}
 use Rattle.hier.proofs.symbols.kinds.Tie as tie

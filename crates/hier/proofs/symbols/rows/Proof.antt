@@ -1,6 +1,6 @@
 -- `rows`: the constant passes its test.
 use Rattle.block.specs.Symbols.{gap}
-use Rattle.block.specs.Inside.{nearOf}
+use Rattle.block.specs.Parts.{nearOf}
 use Rattle.block.proofs.Tables.{row?, is-rows}
 use Rattle.hier.proofs.symbols.rows.Statement.{statement}
 use Rattle.hier.proofs.symbols.rows.Tie as tie

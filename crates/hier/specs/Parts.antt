@@ -1,11 +1,11 @@
--- What the private functions of the reader answer. No promise of a public call stands on this page.
+-- What only private functions cite. No promise of a public call stands on this page.
 -- ┌───────────────┬─────────────────────────────────────────────────────────────────┐
 -- │ Small n       │ each of the four is below 7                                     │
 -- │ NearsOf b v n │ n has what stands nearest in each symbol of b                   │
 -- └───────────────┴─────────────────────────────────────────────────────────────────┘
 use mathlib.Core.Path.{_≡_}
 use Prim.Native.Nat.{ℕ, _<_}
-use Rattle.block.specs.Found.{near₀, near₁, near₂, near₃}
+use Rattle.block.specs.Parts.{near₀, near₁, near₂, near₃}
 use Rattle.hier.specs.declared.found.Nears.{Nears}
 
 pub record Small (n : Nears) : Type 0 where

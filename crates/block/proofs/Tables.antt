@@ -21,7 +21,7 @@ use lib.ListN.{getD}
 use Rattle.laws.proofs.Truth.{and-l, and-r, implied}
 use Rattle.laws.proofs.Computed.{upto, below}
 use Rattle.block.specs.Symbols.{member, gap}
-use Rattle.block.specs.Parts.{nearOf, kindOf, solved, Pairs, Kinds, Rows}
+use Rattle.block.specs.Parts.{nearOf, kindOf, solved, Pairs, Kinds, NearRows}
 use Rattle.block.proofs.Laws.{below₂}
 
 abbrev pub agree : ℕ → ℕ → Bool
@@ -94,7 +94,7 @@ is-kinds l t = record { right = λ x h. eqb→eq _ (kindOf x) (below (kind? l) 1
 unfoldable pub row? : List ℕ → ℕ → ℕ → Bool
 row? l s x = eqb (getD l s 0 / 2 ^ (4 * x) % 16) (nearOf s x)
 
-pub is-rows : (l : List ℕ) → T (upto (λ s. upto (row? l s) 16) 3) → Rows l
+pub is-rows : (l : List ℕ) → T (upto (λ s. upto (row? l s) 16) 3) → NearRows l
 unfolding row?
 is-rows l t = record { right = λ s x hs hx. eqb→eq _ (nearOf s x) (below₂ (row? l) 3 16 t s x hs hx) }
 

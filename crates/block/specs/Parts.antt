@@ -9,7 +9,7 @@
 -- │ solved       │ 3 u + w                                                          │
 -- │ Pairs        │ a table of the members: that of subset s for c at 2 s + c        │
 -- │ Kinds        │ a table of the kinds                                             │
--- │ Rows         │ a number for each subset, its digit x, to base 16, what `nearOf` │
+-- │ NearRows     │ a number for each subset, its digit x, to base 16, what `nearOf` │
 -- │              │ says of x                                                        │
 -- │ choice b     │ v = 3 u + w by the symbols that came whole                       │
 -- │ near₀ b v .. │ the nearest member of the subsets of v, symbol by symbol         │
@@ -59,7 +59,7 @@ pub record Pairs (l : List ℕ) : Type 0 where
 pub record Kinds (l : List ℕ) : Type 0 where
   pub right : (x : ℕ) → x < 16 → getD l x 0 ≡ kindOf x
 
-pub record Rows (l : List ℕ) : Type 0 where
+pub record NearRows (l : List ℕ) : Type 0 where
   pub right : (s x : ℕ) → s < 3 → x < 16 → getD l s 0 / 2 ^ (4 * x) % 16 ≡ nearOf s x
 
 abbrev pub choice : ℕ → ℕ

@@ -9,13 +9,13 @@ use native.Mathlib.Omega.{arith}
 use borrow.Author.Tests.{ltb-true, ltb-false}
 use Rattle.bus.specs.declared.Bus.{Bus}
 use Rattle.bus.specs.Wires.{apart}
-use Rattle.bus.specs.Rule.{plain, opposite, crowded}
+use Rattle.bus.specs.Rule.{plain, turnedOver, crowded}
 use Rattle.bus.specs.Claims.{HalfAtMost}
 use Rattle.bus.proofs.Inverse.{apart-turned}
 use Rattle.bus.proofs.Theorems.{taken}
 
 few : (t : Bool) (b : Bus) (y : ℕ) → crowded b y ≡ t → y < 2 ^ b .width
-    → apart (b .width) (b .wires) (cond t (opposite (b .width) y) (plain (b .width) y) .wires) ≤ b .width / 2
+    → apart (b .width) (b .wires) (cond t (turnedOver (b .width) y) (plain (b .width) y) .wires) ≤ b .width / 2
 unfolding crowded
 few true b y e h = omega (arith, ltb-true (b .width) (2 * apart (b .width) (b .wires) y) e, apart-turned (b .width) (b .wires) y h)
 few false b y e h = omega (arith, ltb-false (b .width) (2 * apart (b .width) (b .wires) y) e)

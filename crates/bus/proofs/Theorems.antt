@@ -18,7 +18,7 @@ use Rattle.laws.proofs.Truth.{two}
 use Rattle.bus.specs.declared.Bus.{Bus}
 use Rattle.bus.specs.declared.Driven.the-variants.{Now}
 use Rattle.bus.specs.declared.Received.the-variants.{Word}
-use Rattle.bus.specs.Rule.{plain, opposite, inRange, crowded, next, undone}
+use Rattle.bus.specs.Rule.{plain, turnedOver, inRange, crowded, next, undone}
 use Rattle.bus.specs.Calls.{Sends}
 use Rattle.bus.specs.Claims.{BeginsInRange, StaysInRange, Undoes}
 use Rattle.bus.proofs.Range.{InRange, in-range, is-in-range}
@@ -41,11 +41,11 @@ taken b n y s =
     record { from = in-range _ (q .0); carried = in-range _ (q .1); to = e .1 }
 
 -- whichever way the rule goes
-sent-range : (t : Bool) (w y : ℕ) → InRange (plain w y) → InRange (cond t (opposite w y) (plain w y))
+sent-range : (t : Bool) (w y : ℕ) → InRange (plain w y) → InRange (cond t (turnedOver w y) (plain w y))
 sent-range true w y r = record { some = r .some; most = r .most; below = inverted-lt w y; wire = omega arith }
 sent-range false w y r = r
 
-sent-undone : (t : Bool) (w y : ℕ) → y < 2 ^ w → let n = cond t (opposite w y) (plain w y) in undone (n .width) (n .wires) (n .invert) ≡ y
+sent-undone : (t : Bool) (w y : ℕ) → y < 2 ^ w → let n = cond t (turnedOver w y) (plain w y) in undone (n .width) (n .wires) (n .invert) ≡ y
 sent-undone true w y h = twice w y h
 sent-undone false w y h = refl
 

@@ -1,16 +1,16 @@
 -- Bus-invert, as the paper says it.
--- ┌──────────────┬──────────────────────────────────────────────────────────────────┐
--- │ widest       │ the data wires of a bus at most                                  │
--- │ state w x v  │ a bus of width w with x on its data wires and v on the invert    │
--- │              │ wire                                                             │
--- │ plain w y    │ data y sent as it is, the invert wire cleared                    │
--- │ opposite w y │ data y sent inverted, the invert wire set                        │
--- │ inRange b    │ width 1 to 31, no wire set above it, invert wire 0 or 1          │
--- │ crowded b y  │ the rule by which the sender inverts: the data wires that differ │
--- │              │ are more than half the width                                     │
--- │ next b y     │ the state after data y is sent                                   │
--- │ undone w x v │ what the receiver makes of the wires                             │
--- └──────────────┴──────────────────────────────────────────────────────────────────┘
+-- ┌────────────────┬──────────────────────────────────────────────────────────────────┐
+-- │ widest         │ the data wires of a bus at most                                  │
+-- │ state w x v    │ a bus of width w with x on its data wires and v on the invert    │
+-- │                │ wire                                                             │
+-- │ plain w y      │ data y sent as it is, the invert wire cleared                    │
+-- │ turnedOver w y │ data y sent inverted, the invert wire set                        │
+-- │ inRange b      │ width 1 to 31, no wire set above it, invert wire 0 or 1          │
+-- │ crowded b y    │ the rule by which the sender inverts: the data wires that differ │
+-- │                │ are more than half the width                                     │
+-- │ next b y       │ the state after data y is sent                                   │
+-- │ undone w x v   │ what the receiver makes of the wires                             │
+-- └────────────────┴──────────────────────────────────────────────────────────────────┘
 -- The rule has the whole state before it, and nothing else looks into it: another rule changes that line alone.
 use mathlib.Core.Bool.{Bool, cond, _&&_}
 use Prim.Native.Nat.{ℕ, zero, suc, _*_, _^_}
@@ -27,8 +27,8 @@ state w x v = record { width = w; wires = x; invert = v }
 abbrev pub plain : ℕ → ℕ → Bus
 plain w y = state w y 0
 
-abbrev pub opposite : ℕ → ℕ → Bus
-opposite w y = state w (inverted w y) 1
+abbrev pub turnedOver : ℕ → ℕ → Bus
+turnedOver w y = state w (inverted w y) 1
 
 abbrev pub inRange : Bus → Bool
 inRange b = leb 1 (b .width) && (leb (b .width) widest && (ltb (b .wires) (2 ^ b .width) && leb (b .invert) 1))
@@ -37,7 +37,7 @@ unfoldable pub crowded : Bus → ℕ → Bool
 crowded b y = ltb (b .width) (2 * apart (b .width) (b .wires) y)
 
 abbrev pub next : Bus → ℕ → Bus
-next b y = cond (crowded b y) (opposite (b .width) y) (plain (b .width) y)
+next b y = cond (crowded b y) (turnedOver (b .width) y) (plain (b .width) y)
 
 abbrev pub undone : ℕ → ℕ → ℕ → ℕ
 undone w x zero = x

@@ -2,7 +2,7 @@
 ghost use mathlib.Core.Path.{_≡_};
 ghost use mathlib.Core.Bool.{true};
 ghost use Prim.Native.Nat.{_≤_, _<_, _^_};
-ghost use Rattle.bus.specs.Wires.{inverted};
+ghost use Rattle.bus.specs.Wires as bits;
 ghost use Rattle.bus.specs.Rule as rule;
 ghost use Rattle.bus.specs.Rule.{widest, inRange};
 ghost use Rattle.bus.specs.Calls.{Starts, Sends, Receives};
@@ -54,9 +54,9 @@ fn crowded(b: Bus, data: u32) -> bool
     b.width < 2 * differing
 }
 
-fn turned(width: u32, wires: u32) -> u32
+fn inverted(width: u32, wires: u32) -> u32
     requires { ⌜ (width ≤ widest) × (wires < 2 ^ width) ⌝ }
-    ensures { λ r. ⌜ r ≡ inverted width wires ⌝ }
+    ensures { λ r. ⌜ r ≡ bits.inverted width wires ⌝ }
 {
     (1u32 << width) - 1 - wires
 }
@@ -73,13 +73,13 @@ fn plain(width: u32, data: u32) -> Bus
 }
 
 // Data on the wires inverted.
-fn opposite(width: u32, data: u32) -> Bus
+fn turned_over(width: u32, data: u32) -> Bus
     requires { ⌜ (width ≤ widest) × («data» < 2 ^ width) ⌝ }
-    ensures { λ r. ⌜ r ≡ rule.opposite width «data» ⌝ }
+    ensures { λ r. ⌜ r ≡ rule.turnedOver width «data» ⌝ }
 {
     Bus {
         width,
-        wires: turned(width, data),
+        wires: inverted(width, data),
         invert: 1,
     }
 }
@@ -108,7 +108,7 @@ impl Bus {
             return Driven::Refused(paper::OUTSIDE);
         }
         if crowded(self, data) {
-            return Driven::Now(opposite(self.width, data));
+            return Driven::Now(turned_over(self.width, data));
         }
         Driven::Now(as_it_is)
     }
@@ -128,5 +128,5 @@ pub fn receive(width: u32, wires: u32, invert: u8) -> Received
     if invert == 0 {
         return Received::Word(wires);
     }
-    Received::Word(turned(width, wires))
+    Received::Word(inverted(width, wires))
 }

@@ -2,7 +2,7 @@
 ghost use mathlib.Core.Path.{_≡_};
 ghost use Prim.Native.Nat.{_<_, _≤_};
 ghost use Rattle.block.specs.Parts.{firstOf, secondOf, solved, choice, halves, digits};
-ghost use Rattle.hier.specs.Parts.{Small, NearsOf};
+ghost use Rattle.hier.specs.Parts.{BelowSeven, NearsOf};
 use crate::symbols::kind;
 use crate::symbols::nearest;
 
@@ -80,7 +80,7 @@ pub(crate) fn near_each(v: u16, block: u16) -> Nears
 }
 
 pub(crate) fn flips_in(n: Nears) -> u16
-    requires { ⌜ Small n ⌝ }
+    requires { ⌜ BelowSeven n ⌝ }
     ensures { λ r. ⌜ (r ≡ halves (n .first) (n .second) (n .third) (n .fourth)) × (r ≤ 12) ⌝ }
 {
     n.first / 2 + n.second / 2 + n.third / 2 + n.fourth / 2

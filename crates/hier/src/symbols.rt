@@ -2,7 +2,7 @@
 ghost use mathlib.Core.Path.{_≡_};
 ghost use Prim.Native.Nat.{_<_, _≤_};
 ghost use Rattle.block.specs.Symbols.{member};
-ghost use Rattle.block.specs.Parts.{nearOf, kindOf, Pairs, Kinds, Rows};
+ghost use Rattle.block.specs.Parts.{nearOf, kindOf, Pairs, Kinds, NearRows};
 
 // The pairs of subsets 0, 1 and 2.
 const MEMBERS: [u16; 6] = [0b0011, 0b1100, 0b0101, 0b1010, 0b0110, 0b1001];
@@ -30,7 +30,7 @@ fn kinds() -> [u16; 16]
 }
 
 fn rows() -> [u64; 3]
-    ensures { λ r. ⌜ Rows r ⌝ }
+    ensures { λ r. ⌜ NearRows r ⌝ }
 {
     NEAR
 }

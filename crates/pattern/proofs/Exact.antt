@@ -17,7 +17,7 @@ use lib.Ieee.Back.{unsigned-back, round-whole}
 use lib.Ieee.Exact.{HasValue}
 use lib.Ieee.Fits.{down-pos}
 use lib.Ieee.Scale.{round-same}
-use Rattle.pattern.specs.Theorems.{LosesNothing, OneRounding}
+use Rattle.pattern.specs.Claims.{LosesNothing, OneRounding}
 
 pub cast-ok : (n : ℕ) → n < 2 ^ 53 → T (inFloat binary64 (pos n))
 unfolding inFloat

@@ -1,6 +1,5 @@
 -- What is promised of the generator beside its contracts.
 -- ┌─────────────────┬───────────────┐
--- │ one-fill        │ OneFill       │
 -- │ continues       │ Continues     │
 -- │ fills-on        │ FillsOn       │
 -- │ fills-in-pieces │ FillsInPieces │
@@ -15,29 +14,21 @@ use borrow.Author.Tests.{le-ltb, ltb-false, lt-ltb, eqb-false, ne-eqb, not-false
 use lib.ListN.{length, getD, length-append}
 use Rattle.laws.specs.Bits.{bit}
 use Rattle.sequence.specs.Bits.{bitsOf}
-use Rattle.sequence.specs.Sequence.{onward, run, bytes}
+use Rattle.sequence.specs.Sequence.{onward, nextBits, bytes}
 use Rattle.paper.specs.Numbers.{mostBytes, unfit, outside, allZero}
 use Rattle.sequence.specs.Patterns.{pattern, secondTap}
-use Rattle.pattern.specs.Generation.{registered, advanced, fillAnswer, fillLeaves}
-use Rattle.pattern.specs.Theorems.{OneFill, Continues, FillsOn, FillsInPieces}
+use Rattle.paper.specs.Answer.{gives}
+use Rattle.pattern.specs.Generation.{registered, advanced}
+use Rattle.pattern.specs.Calls.{fillRefusal, fillAnswer}
+use Rattle.pattern.specs.Claims.{Continues, FillsOn, FillsInPieces}
 use Rattle.pattern.specs.declared.generator.Generator.{Generator}
-use Rattle.pattern.specs.declared.generator.Filled.{Filled}
-use Rattle.pattern.specs.declared.generator.Filled.the-variants.{Advanced, Refused}
 use Rattle.laws.proofs.Truth.{true-is}
-use Rattle.pattern.proofs.Tests.{past}
+use Rattle.pattern.proofs.Tests.{past, given}
 use Rattle.sequence.proofs.Taps.{taps}
 use Rattle.pattern.proofs.Ranges.{registered-pattern, registered-lt}
 use Rattle.sequence.proofs.Steps.{onward-add, onward-lt}
 use Rattle.sequence.proofs.Buffer.{bytes-add, bits-of-bytes}
-use Rattle.sequence.proofs.Recurrence.{held, run-at, lasts}
-
-pub one-fill : OneFill
-one-fill g before r s x y p q =
-    let e : r ≡ s = p .answer ∙ sym (q .answer) in
-    (e, p .buffer ∙ ap (λ (t : Filled). fillLeaves t g before) e ∙ sym (q .buffer))
-
-not-refused : {n : ℕ} {h : Generator} → Refused n ≡ Advanced h → ⊥
-not-refused e = let z : _≡_ {A = ℕ} 0 1 = cc in omega arith
+use Rattle.sequence.proofs.Recurrence.{held, next-at, lasts}
 
 -- what an accepting answer says of the state
 record Accepted (g h : Generator) (n : ℕ) : Type 0 where
@@ -46,15 +37,15 @@ record Accepted (g h : Generator) (n : ℕ) : Type 0 where
   live : g .register ≡ 0 → ⊥
   next : advanced g n ≡ h
 
-accepted : (g h : Generator) (n : ℕ) → Advanced h ≡ fillAnswer g n → Accepted g h n
+accepted : (g h : Generator) (n : ℕ) → gives h ≡ fillAnswer g n → Accepted g h n
 accepted g h n e =
-    let p = past (ltb mostBytes n) (Refused unfit) _ (Advanced h) not-refused (sym e) in
-    let q = past (not (registered (g .pattern) (g .register))) (Refused outside) _ (Advanced h) not-refused (p .1) in
-    let r = past (eqb (g .register) 0) (Refused allZero) _ (Advanced h) not-refused (q .1) in
-    let s = r .1 in
-    record { short = ltb-false _ _ (p .0); inside = not-false _ (q .0); live = eqb-false _ _ (r .0); next = cc }
+    let v = given (fillRefusal (g .pattern) (g .register) n) (advanced g n) h (sym e) in
+    let p = past (ltb mostBytes n) unfit _ 0 (λ z. omega arith) (v .0) in
+    let q = past (not (registered (g .pattern) (g .register))) outside _ 0 (λ z. omega arith) (p .1) in
+    let r = past (eqb (g .register) 0) allZero _ 0 (λ z. omega arith) (q .1) in
+    record { short = ltb-false _ _ (p .0); inside = not-false _ (q .0); live = eqb-false _ _ (r .0); next = v .1 }
 
-accepts : (g h : Generator) (n : ℕ) → Accepted g h n → Advanced h ≡ fillAnswer g n
+accepts : (g h : Generator) (n : ℕ) → Accepted g h n → gives h ≡ fillAnswer g n
 accepts g h n a = sym (simp (le-ltb _ _ (a .short), a .inside, ne-eqb _ _ (a .live), a .next))
 
 -- a generator that came back is in its range, not zero, and of the same pattern
@@ -110,8 +101,8 @@ continues g h before after f b F first =
     let r = g .register in
     let n = length before in
     let k = taps p (registered-pattern _ _ (A .inside)) in
-    let e : bitsOf after ≡ run p t (8 * n) r = ap bitsOf (f .buffer) ∙ bits-of-bytes p t n r in (
-      λ i l. ap (λ (x : List ℕ). getD x i 0) e ∙ run-at p t (k .0) (k .2) r b F first i (8 * n) l,
+    let e : bitsOf after ≡ nextBits p t (8 * n) r = ap bitsOf (f .buffer) ∙ bits-of-bytes p t n r in (
+      λ i l. ap (λ (x : List ℕ). getD x i 0) e ∙ next-at p t (k .0) (k .2) r b F first i (8 * n) l,
       λ i l. ap b (shift (8 * n) p i l) ∙ sym (held p t (k .0) (k .2) r b F first (8 * n) (p - 1 - i) (from-top p i l)) ∙ ap (λ (x : Generator). bit (x .register) (p - 1 - i)) (A .next),
     )
   where

@@ -4,6 +4,7 @@ pub mod Generated
 pub mod Sound
 pub mod Answers
 pub mod Pieces
-pub mod Counts
+pub mod Compared
 pub mod Own
 pub mod Exact
+pub mod OneAnswer

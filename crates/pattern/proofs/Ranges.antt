@@ -3,11 +3,10 @@
 -- │ registered-pattern │ its pattern is one                            │
 -- │ registered-lt      │ it is below 2 to its length                   │
 -- │ registered-at      │ the same, at a number that equals the pattern │
--- │ refused-by         │ the answer where something speaks against it  │
 -- │ allowed            │ where nothing does, what the tests said       │
 -- └────────────────────┴───────────────────────────────────────────────┘
 use mathlib.Core.Path.{_≡_, refl, sym, subst}
-use mathlib.Core.Bool.{true, false, cond, not}
+use mathlib.Core.Bool.{true, false}
 use Prim.Native.Nat.{ℕ, _^_, _<_}
 use native.Mathlib.Omega.{arith}
 use lib.Dec.{T, ltb, eqb, ltb→lt}
@@ -15,13 +14,8 @@ use Rattle.paper.specs.Numbers.{unfit, outside, allZero, mostBytes}
 use Rattle.laws.proofs.Truth.{and-l, and-r, is-true}
 use Rattle.sequence.specs.Patterns.{pattern}
 use Rattle.pattern.specs.Generation.{registered}
-use Rattle.pattern.specs.Private.{fillRefusal}
-use Rattle.pattern.proofs.Tests.{refused, passed}
-
-pub refused-by :
-    {A : Type 0} (f : ℕ → A) (t : A) (p r n m : ℕ) → m ≡ fillRefusal p r n → (m ≡ 0 → ⊥)
-    → f m ≡ cond (ltb mostBytes n) (f unfit) (cond (not (registered p r)) (f outside) (cond (eqb r 0) (f allZero) t))
-refused-by f t p r n m = refused unfit outside allZero m f t (ltb mostBytes n) (registered p r) (eqb r 0) (eqb r 0) (λ e. refl)
+use Rattle.pattern.specs.Calls.{fillRefusal}
+use Rattle.pattern.proofs.Tests.{passed}
 
 pub allowed : (p r n : ℕ) → fillRefusal p r n ≡ 0 → (ltb mostBytes n ≡ false) × (registered p r ≡ true) × (eqb r 0 ≡ false)
 allowed p r n e =

@@ -1,10 +1,10 @@
 -- A counter in its range, taken apart and put together.
--- ┌───────────────┬───────────────────────────────────────────────┐
--- │ Sound c       │ the range of a counter as facts               │
--- │ sound, counts │ the test `counted` and the facts say the same │
--- │ parts         │ the test `counted` as the code has it         │
--- │ steady        │ what a sound counter's steps ask              │
--- └───────────────┴───────────────────────────────────────────────┘
+-- ┌────────────────────┬───────────────────────────────────────────────┐
+-- │ Sound c            │ the range of a counter as facts               │
+-- │ sound, is-in-range │ the test `counted` and the facts say the same │
+-- │ parts              │ the test `counted` as the code has it         │
+-- │ steady             │ what a sound counter's steps ask              │
+-- └────────────────────┴───────────────────────────────────────────────┘
 use mathlib.Core.Path.{_≡_, ap}
 use mathlib.Core.Bool.{true, not, _&&_, _||_}
 use Prim.Native.Nat.{_^_, _≤_, _<_}
@@ -12,7 +12,7 @@ use lib.Dec.{T, eqb, leb, ltb}
 use borrow.Author.Tests.{le-leb, lt-ltb, eq-eqb, ne-eqb, leb-true, ltb-true, eqb-true, eqb-false}
 use Rattle.paper.specs.Numbers.{mostCounted}
 use Rattle.sequence.specs.Patterns.{pattern}
-use Rattle.pattern.specs.Counting.{countOf, counted}
+use Rattle.pattern.specs.Counting.{countOf, inRange}
 use Rattle.sequence.specs.Counting.{Steady}
 use Rattle.pattern.specs.declared.counter.Counter.{Counter}
 use Rattle.laws.proofs.Truth.{is-true, true-is}
@@ -28,8 +28,8 @@ pub record Sound (c : Counter) : Type 0 where
   pub errors : c .errors ≤ c .bits
   pub bits : c .bits ≤ mostCounted
 
-pub sound : (c : Counter) → counted c ≡ true → Sound c
-unfolding counted
+pub sound : (c : Counter) → inRange c ≡ true → Sound c
+unfolding inRange
 sound c e =
     let h = seven (pattern (c .pattern)) _ _ _ _ _ _ e in
     record {
@@ -42,9 +42,9 @@ sound c e =
       bits = leb-true _ _ (h .6);
     }
 
-pub counts : (c : Counter) → Sound c → counted c ≡ true
-unfolding counted
-counts c s =
+pub is-in-range : (c : Counter) → Sound c → inRange c ≡ true
+unfolding inRange
+is-in-range c s =
     let f = eqb (c .filled) (c .pattern) in
     let z = eqb (c .register) 0 in
     all-seven (pattern (c .pattern)) _ _ _ _ _ _
@@ -56,11 +56,11 @@ counts c s =
     (le-leb _ _ (s .errors))
     (le-leb _ _ (s .bits))
 
-pub parts : (c : Counter) → counted c
+pub parts : (c : Counter) → inRange c
     ≡ pattern (c .pattern)
     && ((leb (c .filled) (c .pattern) && ltb (c .register) (2 ^ (c .filled)) && not (eqb (c .filled) (c .pattern) && eqb (c .register) 0))
     && ((eqb (c .filled) (c .pattern) || eqb (c .bits) 0) && leb (c .errors) (c .bits) && leb (c .bits) mostCounted))
-unfolding counted
+unfolding inRange
 parts c = grouped (pattern (c .pattern)) _ _ _ _ _ _
 
 pub steady : (c : Counter) → Sound c → Steady (c .pattern) (countOf c)

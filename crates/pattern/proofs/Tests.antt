@@ -1,22 +1,27 @@
 -- Laws of tests, of which an answer or a range is made.
--- ┌────────────┬───────────────────────────────────────────────────────────┐
--- │ ltb-same   │ two tests of numbers that hold together                   │
--- │ seven      │ the parts of a test that is seven                         │
--- │ all-seven  │ a test that is seven, from its parts                      │
--- │ not-both   │ of "not both", where both hold                            │
--- │ the-other  │ of two alternatives the second, where it is not the first │
--- │ either-way │ two alternatives, the second where it is not the first    │
--- │ grouped    │ a test that is seven, as one, three and three             │
--- │ past       │ where the test of an answer fails, it is the other one    │
--- │ refused    │ a refusal by its number, where the number is one          │
--- │ passed     │ where it is none, what the three tests said               │
--- └────────────┴───────────────────────────────────────────────────────────┘
+-- ┌───────────────┬─────────────────────────────────────────────────────────────┐
+-- │ ltb-same      │ two tests of numbers that hold together                     │
+-- │ seven         │ the parts of a test that is seven                           │
+-- │ all-seven     │ a test that is seven, from its parts                        │
+-- │ not-both      │ of "not both", where both hold                              │
+-- │ the-other     │ of two alternatives the second, where it is not the first   │
+-- │ either-way    │ two alternatives, the second where it is not the first      │
+-- │ grouped       │ a test that is seven, as one, three and three               │
+-- │ past          │ where the test of an answer fails, it is the other one      │
+-- │ refused-alike │ where one of three tests refuses, more tests change nothing │
+-- │ passed        │ where none does, what the three tests said                  │
+-- │ refuses       │ what is owed where something refuses                        │
+-- │ answers       │ what is owed where nothing does                             │
+-- │ given         │ a value is owed only where nothing refuses                  │
+-- └───────────────┴─────────────────────────────────────────────────────────────┘
 use mathlib.Core.Path.{_≡_, refl, sym, ap, _∙_}
 use mathlib.Core.Bool.{Bool, true, false, cond, not, _&&_, _||_}
-use Prim.Native.Nat.{ℕ, _≤_, _<_}
+use Prim.Native.Nat.{ℕ, zero, suc, _≤_, _<_}
 use lib.Dec.{ltb}
 use borrow.Author.Tests.{lt-ltb, le-ltb, ltb-true, ltb-false}
 use native.Mathlib.Omega.{arith}
+use Rattle.paper.specs.Answer.{gives, refused, owed}
+use Rattle.paper.proofs.Answer.{gives-one, never-both}
 use Rattle.laws.proofs.Truth.{is-true, two}
 
 pub ltb-same : (m n p q : ℕ) → (m < n → p < q) → (n ≤ m → q ≤ p) → ltb m n ≡ ltb p q
@@ -64,17 +69,29 @@ grouped true true false d e f g = refl
 grouped true true true false e f g = refl
 grouped true true true true e f g = refl
 
--- three tests in order, and the numbers of their refusals
+-- three tests in order, and the numbers of their refusals; of the third there may be two forms, and more tests may follow it
 module _ (x y z n : ℕ) where
-  pub refused : {A : Type 0} (f : ℕ → A) (t : A) (a b c d : Bool) → (b ≡ true → c ≡ d)
-      → n ≡ cond a x (cond (not b) y (cond c z 0)) → (n ≡ 0 → ⊥) → f n ≡ cond a (f x) (cond (not b) (f y) (cond d (f z) t))
-  refused f t true b c d s e h = ap f e
-  refused f t false false c d s e h = ap f e
-  refused f t false true true d s e h = ap f e ∙ ap (λ (k : Bool). cond k (f z) t) (s refl)
-  refused f t false true false d s e h = absurd (h e)
+  pub refused-alike : (a b c d : Bool) (t : ℕ) → (b ≡ true → c ≡ d)
+      → n ≡ cond a x (cond (not b) y (cond c z 0)) → (n ≡ 0 → ⊥) → n ≡ cond a x (cond (not b) y (cond d z t))
+  refused-alike true b c d t s e h = e
+  refused-alike false false c d t s e h = e
+  refused-alike false true true d t s e h = e ∙ ap (λ (k : Bool). cond k z t) (s refl)
+  refused-alike false true false d t s e h = absurd (h e)
 
   pub passed : (a b c : Bool) → 0 < x → 0 < y → 0 < z → n ≡ cond a x (cond (not b) y (cond c z 0)) → n ≡ 0 → (a ≡ false) × (b ≡ true) × (c ≡ false)
   passed true b c X Y Z e h = absurd (omega arith)
   passed false false c X Y Z e h = absurd (omega arith)
   passed false true true X Y Z e h = absurd (omega arith)
   passed false true false X Y Z e h = (refl, refl, refl)
+
+pub refuses : {A : Type 0} (m n : ℕ) (a : A) → m ≡ n → (m ≡ 0 → ⊥) → refused m ≡ owed n a
+refuses m zero a e h = absurd (h e)
+refuses m (suc n) a e h = ap refused e
+
+pub answers : {A : Type 0} (m n : ℕ) (a : A) → m ≡ n → m ≡ 0 → gives a ≡ owed n a
+answers m zero a e h = refl
+answers m (suc n) a e h = absurd (omega arith)
+
+pub given : {A : Type 0} (n : ℕ) (a b : A) → owed n a ≡ gives b → (n ≡ 0) × (a ≡ b)
+given zero a b e = (refl, gives-one a b e)
+given (suc n) a b e = absurd (never-both b (suc n) (sym e))

@@ -1,5 +1,7 @@
 pub mod Generation
 pub mod Counting
 pub mod Reporting
-pub mod Private
-pub mod Theorems
+pub mod Answers
+pub mod Calls
+pub mod Parts
+pub mod Claims

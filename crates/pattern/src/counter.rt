@@ -7,8 +7,9 @@ ghost use Rattle.sequence.specs.Bits.{highest, bitsOf};
 ghost use Rattle.paper.specs.Numbers.{mostBytes, mostCounted};
 ghost use Rattle.sequence.specs.Counting.{Steady};
 ghost use Rattle.sequence.specs.Patterns.{secondTap};
-ghost use Rattle.pattern.specs.Counting.{countOf, fedOn, freshAnswer, feedAnswer};
-ghost use Rattle.pattern.specs.Private.{Taps, Filling, Comparing, feedRefusal};
+ghost use Rattle.pattern.specs.Counting.{countOf, fedOn};
+ghost use Rattle.pattern.specs.Calls.{Opens, Feeds};
+ghost use Rattle.pattern.specs.Parts.{Taps, Entering, Comparing, pieceRefusal};
 use crate::range::in_range;
 use crate::range::known;
 use crate::steps;
@@ -39,9 +40,9 @@ pub enum Fed {
     Refused(u8),
 }
 
-// The counter with the k bits of n in its register.
-fn fill_bits(c: Counter, l: u64, t: u64, n: u64, k: u64) -> Counter
-    requires { ⌜ Filling l c n k ⌝ }
+// The counter with the k bits of n entered in its register.
+fn enter_bits(c: Counter, l: u64, t: u64, n: u64, k: u64) -> Counter
+    requires { ⌜ Entering l c n k ⌝ }
     ensures { λ r. ⌜ r ≡ fedOn l t c (highest k n) ⌝ }
 {
     Counter {
@@ -80,10 +81,10 @@ fn feed_byte(c: Counter, l: u64, t: u64, x: u64) -> Counter
         return compare_bits(c, l, t, x, 8);
     }
     if room >= 8 {
-        return fill_bits(c, l, t, x, 8);
+        return enter_bits(c, l, t, x, 8);
     }
     let left = 8 - room;
-    let full = fill_bits(c, l, t, x >> left, room);
+    let full = enter_bits(c, l, t, x >> left, room);
     compare_bits(full, l, t, x % (1 << left), left)
 }
 
@@ -111,7 +112,7 @@ fn past_count(l: u64, filled: u64, bits: u64, n: usize) -> bool
 
 // What speaks against a piece of n bytes before any of it is fed; 0 where nothing does.
 fn refusal(c: Counter, n: usize) -> u8
-    ensures { λ r. ⌜ r ≡ feedRefusal c n ⌝ }
+    ensures { λ r. ⌜ r ≡ pieceRefusal c n ⌝ }
 {
     if n > MOST_BYTES {
         return UNFIT;
@@ -127,8 +128,8 @@ fn refusal(c: Counter, n: usize) -> u8
 
 // The answer to a piece that nothing speaks against, at the taps of the counter's pattern.
 fn feed_at(c: Counter, l: u64, t: u64, piece: &[u8]) -> Fed
-    requires { ⌜ (c .pattern ≡ l) × (t ≡ secondTap l) × (feedRefusal c (length (now piece)) ≡ 0) ⌝ }
-    ensures { λ r. ⌜ r ≡ feedAnswer c (now (piece .entry)) ⌝ }
+    requires { ⌜ (c .pattern ≡ l) × (t ≡ secondTap l) × (pieceRefusal c (length (now piece)) ≡ 0) ⌝ }
+    ensures { λ r. ⌜ Feeds c (now (piece .entry)) r ⌝ }
 {
     let d = feed_bytes(c, l, t, piece);
     // A full register is zero now exactly where it was when it was filled.
@@ -143,7 +144,7 @@ fn feed_at(c: Counter, l: u64, t: u64, piece: &[u8]) -> Fed
 impl Counter {
     // 11: no such pattern.
     pub fn fresh(pattern: u8) -> Opened
-        ensures { λ r. ⌜ r ≡ freshAnswer pattern ⌝ }
+        ensures { λ r. ⌜ Opens pattern r ⌝ }
     {
         if known(pattern) {
             return Opened::Fresh(Counter {
@@ -160,7 +161,7 @@ impl Counter {
     // 12: more than 65,536 bytes; 11: a state out of its range; 20: more than 2^53 - 1 bits compared; 18: the register filled with
     // zeros alone.
     pub fn feed(self, piece: &[u8]) -> Fed
-        ensures { λ r. ⌜ r ≡ feedAnswer self (now (piece .entry)) ⌝ }
+        ensures { λ r. ⌜ Feeds self (now (piece .entry)) r ⌝ }
     {
         let n = refusal(self, piece.len());
         if n != 0 {

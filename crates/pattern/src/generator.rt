@@ -4,8 +4,9 @@ ghost use mathlib.Core.Bool.{true};
 ghost use Prim.Native.Nat.{_*_, _≤_, _<_, _^_};
 ghost use lib.ListN.{length};
 ghost use Rattle.sequence.specs.Sequence.{onward, bytes};
-ghost use Rattle.pattern.specs.Generation.{registered, startAnswer, Fills};
-ghost use Rattle.pattern.specs.Private.{fillRefusal, Runs};
+ghost use Rattle.pattern.specs.Generation.{registered};
+ghost use Rattle.pattern.specs.Calls.{Starts, fillRefusal, Fills};
+ghost use Rattle.pattern.specs.Parts.{Advances};
 use crate::steps;
 use paper::ALL_ZERO;
 use paper::MOST_BYTES;
@@ -77,7 +78,7 @@ fn refusal(pattern: u8, register: u64, n: usize) -> u8
 // The register after a buffer that is filled at the taps of its pattern.
 fn fill_at(pattern: u8, register: u64, out: &mut [u8]) -> u64
     requires { ⌜ registered pattern register ≡ true ⌝ }
-    ensures { λ q. ⌜ Runs pattern register (now (out .entry)) q (now (out .exit)) ⌝ }
+    ensures { λ q. ⌜ Advances pattern register (now (out .entry)) q (now (out .exit)) ⌝ }
 {
     if pattern == 11 {
         return fill_bytes(register, 11, 9, out);
@@ -88,7 +89,7 @@ fn fill_at(pattern: u8, register: u64, out: &mut [u8]) -> u64
 impl Generator {
     // 11: no such pattern, or a register of more bits than it has; 18: all of them zero.
     pub fn start(pattern: u8, register: u64) -> Started
-        ensures { λ r. ⌜ r ≡ startAnswer pattern register ⌝ }
+        ensures { λ r. ⌜ Starts pattern register r ⌝ }
     {
         let n = refusal(pattern, register, 0);
         if n != 0 {

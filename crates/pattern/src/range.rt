@@ -5,7 +5,7 @@ ghost use Prim.Native.Nat.{_<_, _^_};
 ghost use lib.Dec.{leb, ltb, eqb};
 ghost use Rattle.paper.specs.Numbers.{mostCounted};
 ghost use Rattle.sequence.specs.Patterns.{pattern};
-ghost use Rattle.pattern.specs.Counting.{counted};
+ghost use Rattle.pattern.specs.Counting.{inRange};
 use crate::counter::Counter;
 use paper::MOST_COUNTED;
 
@@ -49,7 +49,7 @@ fn sums_in_range(l: u64, filled: u64, bits: u64, errors: u64) -> bool
 }
 
 pub(crate) fn in_range(c: Counter) -> bool
-    ensures { λ r. ⌜ r ≡ counted c ⌝ }
+    ensures { λ r. ⌜ r ≡ inRange c ⌝ }
 {
     let l = c.pattern as u64;
     if known(c.pattern) {

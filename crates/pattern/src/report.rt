@@ -2,7 +2,10 @@
 ghost use mathlib.Core.Path.{_≡_};
 ghost use Prim.Native.Nat.{_≤_};
 ghost use Rattle.paper.specs.Numbers.{mostCounted};
-ghost use Rattle.pattern.specs.Reporting.{rate, reportAnswer};
+ghost use Rattle.paper.specs.Answer.{gives};
+ghost use Rattle.pattern.specs.Reporting.{figures};
+ghost use Rattle.pattern.specs.Answers.{reported};
+ghost use Rattle.pattern.specs.Calls.{Reports};
 use crate::counter::Counter;
 use crate::range;
 use paper::NOTHING_COMPARED;
@@ -26,7 +29,7 @@ pub enum Report {
 
 fn rated(bits: u64, errors: u64) -> Report
     requires { ⌜ (bits ≤ mostCounted) × (errors ≤ bits) ⌝ }
-    ensures { λ r. ⌜ r ≡ rate bits errors ⌝ }
+    ensures { λ r. ⌜ reported r ≡ gives (figures bits errors) ⌝ }
 {
     if errors == 0 {
         return Report::Ceiling {
@@ -45,7 +48,7 @@ fn rated(bits: u64, errors: u64) -> Report
 impl Counter {
     // 11: a state out of its range; 19: nothing compared.
     pub fn report(self) -> Report
-        ensures { λ r. ⌜ r ≡ reportAnswer self ⌝ }
+        ensures { λ r. ⌜ Reports self r ⌝ }
     {
         let known = range::in_range(self);
         let bits = self.bits;

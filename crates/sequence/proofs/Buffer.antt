@@ -17,8 +17,8 @@ use native.Mathlib.Omega.{arith}
 use lib.ListN.{length, drop, set}
 use lib.Seq.{drop-cons, drop-length, set-at, append-snoc}
 use Rattle.sequence.specs.Bits.{number, highest, bitsOf}
-use Rattle.sequence.specs.Sequence.{onward, run, bytes}
-use Rattle.sequence.proofs.Steps.{length-run, bits-run, run-add, onward-add}
+use Rattle.sequence.specs.Sequence.{onward, nextBits, bytes}
+use Rattle.sequence.proofs.Steps.{length-next, bits-next, next-add, onward-add}
 use Rattle.sequence.proofs.Digits.{highest-number}
 
 module _ (L T : ℕ) where
@@ -32,12 +32,12 @@ module _ (L T : ℕ) where
   bytes-add zero n r = ap (λ (k : ℕ). bytes L T k r) (sym (zero-add n))
   bytes-add (suc m) n r =
       let e : 8 * suc m ≡ 8 + 8 * m = omega arith in
-      ap (λ (q : ℕ). number (run L T 8 r) ∷ (bytes L T m (onward L T 8 r) ++ bytes L T n q))
+      ap (λ (q : ℕ). number (nextBits L T 8 r) ∷ (bytes L T m (onward L T 8 r) ++ bytes L T n q))
       (ap (λ (k : ℕ). onward L T k r) e ∙ sym (onward-add L T 8 (8 * m) r))
-      ∙ ap (λ (l : List ℕ). number (run L T 8 r) ∷ l) (bytes-add m n (onward L T 8 r))
+      ∙ ap (λ (l : List ℕ). number (nextBits L T 8 r) ∷ l) (bytes-add m n (onward L T 8 r))
       ∙ ap (λ (k : ℕ). bytes L T k r) (sym (suc-add m n))
 
-  bytes-suc : (n r : ℕ) → bytes L T (suc n) r ≡ bytes L T n r ++ (number (run L T 8 (onward L T (8 * n) r)) ∷ [])
+  bytes-suc : (n r : ℕ) → bytes L T (suc n) r ≡ bytes L T n r ++ (number (nextBits L T 8 (onward L T (8 * n) r)) ∷ [])
   unfolding bytes
   bytes-suc n r = ap (λ (k : ℕ). bytes L T k r) (sym (add-one n)) ∙ sym (bytes-add n 1 r)
 
@@ -55,10 +55,10 @@ module _ (L T : ℕ) where
   unfolding upto bytes
   upto-none r out = refl
 
-  pub upto-more : (r : ℕ) (out : List ℕ) (i : ℕ) → i < length out → set (upto r out i) i (number (run L T 8 (onward L T (8 * i) r))) ≡ upto r out (i + 1)
+  pub upto-more : (r : ℕ) (out : List ℕ) (i : ℕ) → i < length out → set (upto r out i) i (number (nextBits L T 8 (onward L T (8 * i) r))) ≡ upto r out (i + 1)
   unfolding upto
   upto-more r out i h =
-      let v = number (run L T 8 (onward L T (8 * i) r)) in
+      let v = number (nextBits L T 8 (onward L T (8 * i) r)) in
       ap (λ (l : List ℕ). set (bytes L T i r ++ l) i v) (drop-cons out i 0 h)
       ∙ set-at (bytes L T i r) _ (drop (suc i) out) v i (length-bytes i r)
       ∙ sym (append-snoc (bytes L T i r) v (drop (suc i) out))
@@ -69,11 +69,11 @@ module _ (L T : ℕ) where
   unfolding upto
   upto-all r out i e = ap (upto r out) e ∙ ap (λ (l : List ℕ). bytes L T (length out) r ++ l) (drop-length out) ∙ append-nil _
 
-pub bits-of-bytes : (L T n r : ℕ) → bitsOf (bytes L T n r) ≡ run L T (8 * n) r
-unfolding bitsOf bytes run
+pub bits-of-bytes : (L T n r : ℕ) → bitsOf (bytes L T n r) ≡ nextBits L T (8 * n) r
+unfolding bitsOf bytes nextBits
 bits-of-bytes L T zero r = refl
 bits-of-bytes L T (suc n) r =
     let e : 8 + 8 * n ≡ 8 * suc n = omega arith in
-    let f : highest 8 (number (run L T 8 r)) ≡ run L T 8 r =
-    ap (λ (k : ℕ). highest k (number (run L T 8 r))) (sym (length-run L T 8 r)) ∙ highest-number (bits-run L T 8 r) in
-    ap₂ _++_ f (bits-of-bytes L T n (onward L T 8 r)) ∙ run-add L T 8 (8 * n) r ∙ ap (λ (k : ℕ). run L T k r) e
+    let f : highest 8 (number (nextBits L T 8 r)) ≡ nextBits L T 8 r =
+    ap (λ (k : ℕ). highest k (number (nextBits L T 8 r))) (sym (length-next L T 8 r)) ∙ highest-number (bits-next L T 8 r) in
+    ap₂ _++_ f (bits-of-bytes L T n (onward L T 8 r)) ∙ next-add L T 8 (8 * n) r ∙ ap (λ (k : ℕ). nextBits L T k r) e

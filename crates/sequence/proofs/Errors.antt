@@ -19,17 +19,17 @@ use lib.ListN.{length, getD, take, drop, take-append-drop, length-drop, drop-of-
 use lib.Seq.{length-take-le, getD-take}
 use Rattle.laws.specs.Bits.{bit, unlike}
 use Rattle.sequence.specs.Bits.{number}
-use Rattle.sequence.specs.Sequence.{Follows, onward, run}
+use Rattle.sequence.specs.Sequence.{Follows, onward, nextBits}
 use Rattle.sequence.specs.Patterns.{pattern, secondTap}
 use Rattle.sequence.specs.Counting.{Count, nothingFed, fedBits}
 use Rattle.sequence.specs.Claims.{Begins, errorsFrom}
 use Rattle.sequence.proofs.Numbers.{below-or}
 use Rattle.sequence.proofs.Digits.{Bits, bit-number, bits-take}
 use Rattle.sequence.proofs.Apart.{apart}
-use Rattle.sequence.proofs.Steps.{length-run}
+use Rattle.sequence.proofs.Steps.{length-next}
 use Rattle.sequence.proofs.Taps.{taps}
-use Rattle.sequence.proofs.Recurrence.{run-at}
-use Rattle.sequence.proofs.Fed.{fed-append, fed-filling, fed-full}
+use Rattle.sequence.proofs.Recurrence.{next-at}
+use Rattle.sequence.proofs.Fed.{fed-append, fed-entering, fed-full}
 
 apart-errors : (b : ℕ → ℕ) (n : ℕ) (xs ys : List ℕ) → length ys ≡ length xs → ((k : ℕ) → k < length xs → getD ys k 0 ≡ b (n + k)) → apart xs ys ≡ errorsFrom b n xs
 unfolding errorsFrom
@@ -48,13 +48,13 @@ no-errors b n (x ∷ xs) h =
 
 module _ (p : ℕ) (X : List ℕ) where
   pub fed-short : length X < p → fedBits p (secondTap p) nothingFed X ≡ record { filled = 0 + length X; register = 0 * 2 ^ length X + number X; bits = 0; errors = 0 }
-  fed-short h = fed-filling p (secondTap p) X nothingFed (omega arith)
+  fed-short h = fed-entering p (secondTap p) X nothingFed (omega arith)
 
   pub fed-long : p ≤ length X → fedBits p (secondTap p) nothingFed X ≡ record {
     filled = p;
     register = onward p (secondTap p) (length X - p) (number (take p X));
     bits = length X - p;
-    errors = apart (drop p X) (run p (secondTap p) (length X - p) (number (take p X)));
+    errors = apart (drop p X) (nextBits p (secondTap p) (length X - p) (number (take p X)));
   }
   fed-long h =
       let t = secondTap p in
@@ -65,9 +65,9 @@ module _ (p : ℕ) (X : List ℕ) where
       ap (fedBits p t nothingFed) (sym (take-append-drop p X))
       ∙ fed-append p t (take p X) (drop p X) nothingFed
       ∙ ap (λ (c : Count). fedBits p t c (drop p X))
-      (fed-filling p t (take p X) nothingFed (omega arith) ∙ ap₂ (λ (f r : ℕ). record { filled = f; register = r; bits = 0; errors = 0 }) f g)
+      (fed-entering p t (take p X) nothingFed (omega arith) ∙ ap₂ (λ (f r : ℕ). record { filled = f; register = r; bits = 0; errors = 0 }) f g)
       ∙ fed-full p t (drop p X) (record { filled = p; register = r; bits = 0; errors = 0 }) (omega arith)
-      ∙ ap (λ (m : ℕ). record { filled = p; register = onward p t m r; bits = 0 + m; errors = 0 + apart (drop p X) (run p t m r) }) (length-drop p X)
+      ∙ ap (λ (m : ℕ). record { filled = p; register = onward p t m r; bits = 0 + m; errors = 0 + apart (drop p X) (nextBits p t m r) }) (length-drop p X)
       ∙ ap₂ (λ (m e : ℕ). record { filled = p; register = onward p t (length X - p) r; bits = m; errors = e }) (zero-add (length X - p)) (zero-add _)
 
 -- the bits compared and the errors, after all the bits X since fresh
@@ -101,8 +101,8 @@ module _ (p : ℕ) (known : T (pattern p)) (X : List ℕ) (B : Bits X) (b : ℕ 
       let l : length (drop p X) ≡ m = length-drop p X in (
         ap (λ (c : Count). c .bits) e,
         ap (λ (c : Count). c .errors) e
-            ∙ apart-errors b p (drop p X) (run p t m r) (length-run p t m r ∙ sym l)
-            (λ i j. run-at p t (k .0) (k .2) r b F (begins h) i m (subst (λ (x : ℕ). i < x) l j)),
+            ∙ apart-errors b p (drop p X) (nextBits p t m r) (length-next p t m r ∙ sym l)
+            (λ i j. next-at p t (k .0) (k .2) r b F (begins h) i m (subst (λ (x : ℕ). i < x) l j)),
       )
 
   pub right : Right (fedBits p (secondTap p) nothingFed X)

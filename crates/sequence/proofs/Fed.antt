@@ -1,12 +1,12 @@
 -- The count after bits, over the length L and the second tap T.
--- ┌─────────────┬────────────────────────────────────┐
--- │ fed-append  │ bits after bits                    │
--- │ fed-filling │ bits that all go into the register │
--- │ fed-full    │ bits that are all compared         │
--- │ steady-fed  │ what every bit keeps               │
--- │ filled-fed  │ how many places are filled         │
--- │ bits-fed    │ how many bits are compared         │
--- └─────────────┴────────────────────────────────────┘
+-- ┌──────────────┬────────────────────────────────────┐
+-- │ fed-append   │ bits after bits                    │
+-- │ fed-entering │ bits that all go into the register │
+-- │ fed-full     │ bits that are all compared         │
+-- │ steady-fed   │ what every bit keeps               │
+-- │ filled-fed   │ how many places are filled         │
+-- │ bits-fed     │ how many bits are compared         │
+-- └──────────────┴────────────────────────────────────┘
 use mathlib.Core.Path.{_≡_, refl, sym, ap, ap₂, _∙_, subst}
 use mathlib.Core.Bool.{Bool, cond}
 use mathlib.Core.Logic.{⊎-elim}
@@ -19,9 +19,9 @@ use borrow.Author.Tests.{lt-ltb, le-ltb}
 use lib.Pow.{pow-pos}
 use lib.ListN.{length}
 use Rattle.sequence.specs.Bits.{number}
-use Rattle.sequence.specs.Sequence.{nextBit, step, onward, run}
+use Rattle.sequence.specs.Sequence.{nextBit, step, onward, nextBits}
 use Rattle.laws.specs.Bits.{unlike}
-use Rattle.sequence.specs.Counting.{Count, Steady, filling, comparing, fedBit, fedBits}
+use Rattle.sequence.specs.Counting.{Count, Steady, entering, comparing, fedBit, fedBits}
 use Rattle.sequence.proofs.Apart.{apart, unlike-le}
 use Rattle.sequence.proofs.Numbers.{below-or}
 use Rattle.sequence.proofs.Digits.{Bits, none, more}
@@ -32,37 +32,37 @@ module _ (L T : ℕ) where
   fed-append [] ys c = refl
   fed-append (x ∷ xs) ys c = fed-append xs ys (fedBit L T c x)
 
-  pub while-filling : (c : Count) (x : ℕ) → c .filled < L → fedBit L T c x ≡ filling c x
-  while-filling c x h = ap (λ (t : Bool). cond t (filling c x) (comparing L T c x)) (lt-ltb _ _ h)
+  pub while-entering : (c : Count) (x : ℕ) → c .filled < L → fedBit L T c x ≡ entering c x
+  while-entering c x h = ap (λ (t : Bool). cond t (entering c x) (comparing L T c x)) (lt-ltb _ _ h)
 
   pub once-full : (c : Count) (x : ℕ) → L ≤ c .filled → fedBit L T c x ≡ comparing L T c x
-  once-full c x h = ap (λ (t : Bool). cond t (filling c x) (comparing L T c x)) (le-ltb _ _ h)
+  once-full c x h = ap (λ (t : Bool). cond t (entering c x) (comparing L T c x)) (le-ltb _ _ h)
 
   -- what holds of a bit that fills and of a bit that is compared holds of a bit that is fed
-  pub fed-bit : (P : Count → Type 0) (c : Count) (x : ℕ) → (c .filled < L → P (filling c x)) → (L ≤ c .filled → P (comparing L T c x)) → P (fedBit L T c x)
+  pub fed-bit : (P : Count → Type 0) (c : Count) (x : ℕ) → (c .filled < L → P (entering c x)) → (L ≤ c .filled → P (comparing L T c x)) → P (fedBit L T c x)
   fed-bit P c x f g =
-      ⊎-elim (λ h. subst P (sym (while-filling c x h)) (f h)) (λ h. subst P (sym (once-full c x h)) (g h)) (below-or (c .filled) L)
+      ⊎-elim (λ h. subst P (sym (while-entering c x h)) (f h)) (λ h. subst P (sym (once-full c x h)) (g h)) (below-or (c .filled) L)
 
-  pub fed-filling : (xs : List ℕ) (c : Count) → c .filled + length xs ≤ L
+  pub fed-entering : (xs : List ℕ) (c : Count) → c .filled + length xs ≤ L
       → fedBits L T c xs ≡ record { filled = c .filled + length xs; register = c .register * 2 ^ length xs + number xs; bits = c .bits; errors = c .errors }
   unfolding fedBits number
-  fed-filling [] c h =
+  fed-entering [] c h =
       let f : c .filled ≡ c .filled + 0 = omega arith in
       let r : c .register ≡ c .register * 1 + 0 = omega arith in
       ap₂ (λ (f r : ℕ). record { filled = f; register = r; bits = c .bits; errors = c .errors }) f r
-  fed-filling (x ∷ xs) c h =
+  fed-entering (x ∷ xs) c h =
       let n = length xs in
       let f : c .filled + 1 + n ≡ c .filled + suc n = omega arith in
       let m : c .register * 2 ^ suc n ≡ c .register * 2 * 2 ^ n = ap (λ (k : ℕ). c .register * k) (pow-succ' 2 n) ∙ sym (mul-assoc (c .register) 2 (2 ^ n)) in
       let r : (c .register * 2 + x) * 2 ^ n + number xs ≡ c .register * 2 ^ suc n + (x * 2 ^ n + number xs) = omega (arith, add-mul (c .register * 2) x (2 ^ n)) in
-      ap (λ (d : Count). fedBits L T d xs) (while-filling c x (omega arith))
-      ∙ fed-filling xs (filling c x) (omega arith)
+      ap (λ (d : Count). fedBits L T d xs) (while-entering c x (omega arith))
+      ∙ fed-entering xs (entering c x) (omega arith)
       ∙ ap₂ (λ (f r : ℕ). record { filled = f; register = r; bits = c .bits; errors = c .errors }) f r
 
   pub fed-full : (xs : List ℕ) (c : Count) → L ≤ c .filled
       → fedBits L T c xs
-      ≡ record { filled = c .filled; register = onward L T (length xs) (c .register); bits = c .bits + length xs; errors = c .errors + apart xs (run L T (length xs) (c .register)) }
-  unfolding fedBits onward run
+      ≡ record { filled = c .filled; register = onward L T (length xs) (c .register); bits = c .bits + length xs; errors = c .errors + apart xs (nextBits L T (length xs) (c .register)) }
+  unfolding fedBits onward nextBits
   fed-full [] c h =
       let b : c .bits ≡ c .bits + 0 = omega arith in
       let e : c .errors ≡ c .errors + 0 = omega arith in
@@ -72,7 +72,7 @@ module _ (L T : ℕ) where
       let q = step L T (c .register) in
       let u = unlike x (nextBit L T (c .register)) in
       let b : c .bits + 1 + n ≡ c .bits + suc n = omega arith in
-      let e : c .errors + u + apart xs (run L T n q) ≡ c .errors + (u + apart xs (run L T n q)) = omega arith in
+      let e : c .errors + u + apart xs (nextBits L T n q) ≡ c .errors + (u + apart xs (nextBits L T n q)) = omega arith in
       ap (λ (d : Count). fedBits L T d xs) (once-full c x h)
       ∙ fed-full xs (comparing L T c x) h
       ∙ ap₂ (λ (b e : ℕ). record { filled = c .filled; register = onward L T n q; bits = b; errors = e }) b e

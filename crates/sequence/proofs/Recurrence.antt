@@ -4,7 +4,7 @@
 -- │ some-sequence │ SomeSequence: the oldest bits of the register as it moves │
 -- │ held          │ bit i of the register n bits on is the sequence's         │
 -- │ next          │ the next bit is the sequence's                            │
--- │ run-at        │ the bits that come after the register are the sequence's  │
+-- │ next-at       │ the bits that come after the register are the sequence's  │
 -- │ lasts         │ a register that is not zero stays so                      │
 -- │ still         │ and so does one that is                                   │
 -- │ later-follows │ the sequence from its bit L on follows the recurrence too │
@@ -18,7 +18,7 @@ use lib.ListN.{getD}
 use lib.Pow.{pow-pos, shr-lt, split}
 use Rattle.laws.proofs.Xor.{bit-lt}
 use Rattle.laws.specs.Bits.{bit}
-use Rattle.sequence.specs.Sequence.{Follows, nextBit, step, onward, run}
+use Rattle.sequence.specs.Sequence.{Follows, nextBit, step, onward, nextBits}
 use Rattle.sequence.specs.Claims.{Begins, OneSequence, SomeSequence}
 use Rattle.sequence.proofs.Numbers.{below-or, zero-bit, bit-mod, bit-above, mod-digit}
 use Rattle.sequence.proofs.Steps.{onward-suc, onward-add, onward-lt, bit-back}
@@ -80,14 +80,14 @@ module _ (L T : ℕ) (P : 0 < T) (Q : T < L) where
     pub next : (n : ℕ) → nextBit L T (onward L T n r) ≡ b (n + L)
     next n = next-of n (held n)
 
-  run-next : (k n r : ℕ) → k < n → getD (run L T n r) k 0 ≡ nextBit L T (onward L T k r)
-  unfolding run onward
-  run-next k zero r h = absurd (not-suc-le-zero h)
-  run-next zero (suc n) r h = refl
-  run-next (suc k) (suc n) r h = run-next k n (step L T r) (omega arith)
+  next-bits-next : (k n r : ℕ) → k < n → getD (nextBits L T n r) k 0 ≡ nextBit L T (onward L T k r)
+  unfolding nextBits onward
+  next-bits-next k zero r h = absurd (not-suc-le-zero h)
+  next-bits-next zero (suc n) r h = refl
+  next-bits-next (suc k) (suc n) r h = next-bits-next k n (step L T r) (omega arith)
 
-  pub run-at : (r : ℕ) (b : ℕ → ℕ) → Follows L T b → Begins L r b → (k n : ℕ) → k < n → getD (run L T n r) k 0 ≡ b (L + k)
-  run-at r b f first k n h = run-next k n r h ∙ next r b f first k ∙ ap b (add-comm k L)
+  pub next-at : (r : ℕ) (b : ℕ → ℕ) → Follows L T b → Begins L r b → (k n : ℕ) → k < n → getD (nextBits L T n r) k 0 ≡ b (L + k)
+  next-at r b f first k n h = next-bits-next k n r h ∙ next r b f first k ∙ ap b (add-comm k L)
 
   -- the oldest bit of the register n bits on
   oldest : ℕ → ℕ → ℕ

@@ -18,11 +18,11 @@ use borrow.Author.Tests.{lt-ltb, le-ltb, eq-eqb, ne-eqb, eqb-true, eqb-false}
 use lib.ListN.{length}
 use Rattle.laws.proofs.Truth.{is-true, two}
 use Rattle.sequence.specs.Sequence.{onward}
-use Rattle.sequence.specs.Counting.{Count, Steady, filling, fedBit, fedBits, nowZero, zeroFilled}
+use Rattle.sequence.specs.Counting.{Count, Steady, entering, fedBit, fedBits, nowZero, zeroFilled}
 use Rattle.sequence.proofs.Numbers.{below-or}
 use Rattle.sequence.proofs.Digits.{Bits, none, more}
 use Rattle.sequence.proofs.Recurrence.{lasts, still}
-use Rattle.sequence.proofs.Fed.{while-filling, once-full, fed-full, steady-bit}
+use Rattle.sequence.proofs.Fed.{while-entering, once-full, fed-full, steady-bit}
 
 pub never-both : (x y : Bool) → (x ≡ true → y ≡ true → ⊥) → x && y ≡ false
 never-both true true h = absurd (h refl refl)
@@ -74,24 +74,24 @@ module _ (L T : ℕ) (P : 0 < T) (Q : T < L) where
 
   -- one bit more, of which x fills the register or is compared
   module _ (x : ℕ) (xs : List ℕ) (rest : (d : Count) → Steady L d → Live d → AtEnd xs d) (c : Count) where
-    filled-now : Steady L (filling c x) → (z : Bool) → Zero (filling c x) ≡ z → Zero (filling c x) || zeroFilled L T (filling c x) xs ≡ Zero (fedBits L T (filling c x) xs)
+    filled-now : Steady L (entering c x) → (z : Bool) → Zero (entering c x) ≡ z → Zero (entering c x) || zeroFilled L T (entering c x) xs ≡ Zero (fedBits L T (entering c x) xs)
     filled-now t true z =
-        let d = filling c x in
+        let d = entering c x in
         let w = two (eqb (d .filled) L) (eqb (d .register) 0) z in
         let f : d .filled ≡ L = eqb-true _ _ (w .0) in
         ap (λ (b : Bool). b || zeroFilled L T d xs) z
         ∙ sym (from-full xs d f true (w .1) (subst (λ (n : ℕ). d .register < 2 ^ n) f (t .register)))
     filled-now t false z =
-        let d = filling c x in
+        let d = entering c x in
         ap (λ (b : Bool). b || zeroFilled L T d xs) z
         ∙ rest d t (λ f r. is-true {t = false} (sym z ∙ ap₂ _&&_ (eq-eqb (d .filled) L f) (eq-eqb (d .register) 0 r)))
 
     while-filled : x < 2 → Steady L c → c .filled < L → AtEnd (x ∷ xs) c
     unfolding zeroFilled fedBits
     while-filled h s f =
-        let e = while-filling L T c x f in
+        let e = while-entering L T c x f in
         ap₂ (λ (t : Bool) (d : Count). t && eqb (d .filled) L && eqb (d .register) 0 || zeroFilled L T d xs) (lt-ltb _ _ f) e
-        ∙ filled-now (subst (Steady L) e (steady-bit L T c x h s)) (Zero (filling c x)) refl
+        ∙ filled-now (subst (Steady L) e (steady-bit L T c x h s)) (Zero (entering c x)) refl
         ∙ ap (λ (d : Count). Zero (fedBits L T d xs)) (sym e)
 
     once-filled : Steady L c → Live c → L ≤ c .filled → AtEnd (x ∷ xs) c

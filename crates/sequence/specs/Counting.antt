@@ -3,7 +3,7 @@
 -- │ Count               │ the register, how many of its places are filled, the     │
 -- │                     │ bits compared, and the errors among them                 │
 -- │ nothingFed          │ the count before any bit                                 │
--- │ filling c x         │ the bit x enters the register                            │
+-- │ entering c x        │ the bit x enters the register                            │
 -- │ comparing L T c x   │ the pattern runs on by itself, and x is compared with it │
 -- │ fedBit L T c x      │ the count after a bit: first the register is filled,     │
 -- │                     │ then it compares                                         │
@@ -28,8 +28,8 @@ pub record Count : Type 0 where
 abbrev pub nothingFed : Count
 nothingFed = record { filled = 0; register = 0; bits = 0; errors = 0 }
 
-abbrev pub filling : Count → ℕ → Count
-filling c x =
+abbrev pub entering : Count → ℕ → Count
+entering c x =
     record {
       filled = c .filled + 1;
       register = c .register * 2 + x;
@@ -47,7 +47,7 @@ comparing L T c x =
     }
 
 abbrev pub fedBit : ℕ → ℕ → Count → ℕ → Count
-fedBit L T c x = cond (ltb (c .filled) L) (filling c x) (comparing L T c x)
+fedBit L T c x = cond (ltb (c .filled) L) (entering c x) (comparing L T c x)
 
 unfoldable pub fedBits : ℕ → ℕ → Count → List ℕ → Count
 fedBits L T c [] = c

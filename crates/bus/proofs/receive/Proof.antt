@@ -23,14 +23,14 @@ returns-2 : tie.Need-returns-2
 returns-2 c = let a = c .before .before .before .args in
     sym (ap (λ (v : ℕ). gives (undone (a .width) (a .wires) v)) (c .if2 .taken)) ∙ simp (right (c .before))
 
-turned-requires : tie.Need-turned-requires
-turned-requires c κs = let a = c .before .before .before .args in
+inverted-requires : tie.Need-inverted-requires
+inverted-requires c κs = let a = c .before .before .before .args in
     let r = in-range (state (a .width) (a .wires) (a .invert)) (right (c .before)) in
     (r .most, r .below)
 
 returns-3 : tie.Need-returns-3
 returns-3 c = let a = c .before .before .before .before .args in
-    simp (right (c .before .before), c .turned .ensures, undone-set (a .width) (a .wires) (a .invert) (c .before .if2 .left))
+    simp (right (c .before .before), c .inverted .ensures, undone-set (a .width) (a .wires) (a .invert) (c .before .if2 .left))
 
 pub receive-spec : {M : Type 1} → statement M
-receive-spec = tie.close (tie.spec in-range-requires returns returns-2 turned-requires returns-3)
+receive-spec = tie.close (tie.spec in-range-requires returns returns-2 inverted-requires returns-3)

@@ -37,15 +37,15 @@ returns-2 c = simp (state-right (c .before .before .before), data-test (c .befor
 crowded-requires : tie.Need-crowded-requires
 crowded-requires c κs = (state-right (c .before .before .before), data-right c)
 
-opposite-requires : tie.Need-opposite-requires
-opposite-requires c κs = let q = c .before .before in
+turned-over-requires : tie.Need-turned-over-requires
+turned-over-requires c κs = let q = c .before .before in
     let a = q .before .before .before .before .before .args in
     let r = in-range (plain (a .self .width) (a .data)) (data-right q) in
     (r .most, r .below)
 
 returns-3 : tie.Need-returns-3
 returns-3 c = let q = c .before .before .before in
-    simp (state-right (q .before .before .before), data-right q, sym (c .before .before .crowded .ensures) ∙ c .before .if3 .taken, c .opposite .ensures)
+    simp (state-right (q .before .before .before), data-right q, sym (c .before .before .crowded .ensures) ∙ c .before .if3 .taken, c .turned-over .ensures)
 
 returns-4 : tie.Need-returns-4
 returns-4 c = let q = c .before .before in
@@ -61,6 +61,6 @@ send-spec =
     in-range-requires-2
     returns-2
     crowded-requires
-    opposite-requires
+    turned-over-requires
     returns-3
     returns-4)

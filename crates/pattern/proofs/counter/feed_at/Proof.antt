@@ -4,10 +4,11 @@ use Prim.Native.Nat.{ℕ, _≤_, _<_}
 use native.Mathlib.Omega.{arith}
 use Rattle.sequence.specs.Bits.{bitsOf}
 use Rattle.sequence.specs.Patterns.{secondTap}
-use Rattle.pattern.specs.Counting.{countOf, fedOn, fed, feedAnswer}
+use Rattle.paper.specs.Answer.{gives}
+use Rattle.pattern.specs.Counting.{countOf, fedOn, fedPiece}
+use Rattle.pattern.specs.Calls.{feedAnswer}
 use Rattle.sequence.specs.Counting.{Steady}
 use Rattle.pattern.specs.declared.counter.Counter.{Counter}
-use Rattle.pattern.specs.declared.counter.Fed.the-variants.{Counted}
 use Rattle.sequence.proofs.Taps.{taps}
 use Rattle.pattern.proofs.Sound.{sound, steady}
 use Rattle.pattern.proofs.Answers.{short, inside, refuse-zero, accept}
@@ -32,15 +33,15 @@ module _ (c : tie.After-feed-bytes) where
   abbrev self : Counter
   self = start .args .c
 
-  fed-is : c .feed-bytes .result ≡ fed self (start .args .piece .now)
+  fed-is : c .feed-bytes .result ≡ fedPiece self (start .args .piece .now)
   fed-is =
       c .feed-bytes .ensures
       ∙ ap₂ (λ (l t : ℕ). fedOn l t self (bitsOf (start .args .piece .now))) (sym (start .pre .0)) (start .pre .1 ∙ ap secondTap (sym (start .pre .0)))
 
   accepted : (c .feed-bytes .result .filled ≡ start .args .l → c .feed-bytes .result .register ≡ 0 → ⊥)
-      → Counted (c .feed-bytes .result) ≡ feedAnswer self (start .args .piece .now)
+      → gives (c .feed-bytes .result) ≡ feedAnswer self (start .args .piece .now)
   accepted l =
-      ap Counted fed-is
+      ap gives fed-is
       ∙ accept self (start .args .piece .now) (start .pre .2)
       (λ f z. l (ap (λ (d : Counter). d .filled) fed-is ∙ f ∙ start .pre .0) (ap (λ (d : Counter). d .register) fed-is ∙ z))
 

@@ -12,7 +12,7 @@ use Rattle.pattern.specs.declared.counter.Counter.{Counter}
 use Rattle.sequence.proofs.Numbers.{one-shl}
 use Rattle.sequence.proofs.Digits.{bits-highest}
 use Rattle.sequence.proofs.Fed.{steady-fed}
-use Rattle.sequence.proofs.Whole.{fed-filling-by, fed-split}
+use Rattle.sequence.proofs.Whole.{fed-entering-by, fed-split}
 use Rattle.pattern.proofs.counter.feed_byte.Statement.{statement}
 use Rattle.pattern.proofs.counter.feed_byte.Tie as tie
 
@@ -29,8 +29,8 @@ compare-bits-requires c κs =
 returns : tie.Need-returns
 returns c = search needs
 
-fill-bits-requires : tie.Need-fill-bits-requires
-fill-bits-requires c κs = search needs
+enter-bits-requires : tie.Need-enter-bits-requires
+enter-bits-requires c κs = search needs
 
 returns-2 : tie.Need-returns-2
 returns-2 c = search needs
@@ -38,15 +38,15 @@ returns-2 c = search needs
 sub-left : tie.Need-sub-left
 sub-left c = search needs
 
-shr-fill-bits : tie.Need-shr-fill-bits
-shr-fill-bits c = search needs
+shr-enter-bits : tie.Need-shr-enter-bits
+shr-enter-bits c = search needs
 
 -- a byte without its lowest bits
 upper : (x m : ℕ) → x < 256 → m ≤ 8 → x / 2 ^ (8 - m) < 2 ^ m
 upper x m h l = let e : 8 ≡ m + (8 - m) = omega arith in shr-lt {n = x} m (8 - m) (subst (λ (k : ℕ). x < 2 ^ k) e h)
 
-fill-bits-requires-2 : tie.Need-fill-bits-requires-2
-fill-bits-requires-2 c κs =
+enter-bits-requires-2 : tie.Need-enter-bits-requires-2
+enter-bits-requires-2 c κs =
     let b = c .before .before .before in
     let s = b .pre .1 in
     record { word = b .pre .0 .word; places = omega (arith, s .places); register = s .register; bits = upper (b .args .x) (b .args .l - b .args .c .filled) (b .pre .3) (omega arith); byte = omega arith }
@@ -55,7 +55,7 @@ shl-compare-bits : tie.Need-shl-compare-bits
 shl-compare-bits c = search needs
 
 -- the place where the register has just been filled
-module _ (c : tie.After-fill-bits2) where
+module _ (c : tie.After-enter-bits2) where
   abbrev left : ℕ
   left = let a = c .before .before .before .before .args in 8 - (a .l - a .c .filled)
 
@@ -72,10 +72,10 @@ compare-bits-requires-2 c κs =
     let s = b .pre .1 in
     let m = a .l - a .c .filled in
     let n = a .x / 2 ^ (left c) in
-    let d = c .fill-bits2 .result in
-    let e = c .fill-bits2 .ensures in
+    let d = c .enter-bits2 .result in
+    let e = c .enter-bits2 .ensures in
     let p : a .c .filled + m ≤ a .l = omega (arith, s .places) in
-    let g = ap countOf e ∙ fed-filling-by (a .l) (a .t) (countOf (a .c)) n m p (upper (a .x) m (b .pre .3) (omega arith)) in
+    let g = ap countOf e ∙ fed-entering-by (a .l) (a .t) (countOf (a .c)) n m p (upper (a .x) m (b .pre .3) (omega arith)) in
     let f : d .filled ≡ a .l = ap (λ (x : Count). x .filled) g ∙ omega (arith, s .places) in
     let t : Steady (a .l) (countOf d) = subst (Steady (a .l)) (sym (ap countOf e)) (steady-fed (a .l) (a .t) (bits-highest m n) (countOf (a .c)) s) in (
       b .pre .0,
@@ -96,7 +96,7 @@ returns-3 c =
     let m = a .l - a .c .filled in
     let e : m + left h ≡ 8 = omega arith in
     c .compare-bits2 .ensures
-    ∙ ap₂ (λ (d : Counter) (k : ℕ). fedOn (a .l) (a .t) d (highest (left h) (a .x % k))) (h .fill-bits2 .ensures) (shifted h)
+    ∙ ap₂ (λ (d : Counter) (k : ℕ). fedOn (a .l) (a .t) d (highest (left h) (a .x % k))) (h .enter-bits2 .ensures) (shifted h)
     ∙ ap (holding (a .c .pattern)) (fed-split (a .l) (a .t) (countOf (a .c)) (a .x) m (left h))
     ∙ ap (λ (k : ℕ). fedOn (a .l) (a .t) (a .c) (highest k (a .x))) e
 
@@ -107,11 +107,11 @@ feed-byte-spec =
     sub-room
     compare-bits-requires
     returns
-    fill-bits-requires
+    enter-bits-requires
     returns-2
     sub-left
-    shr-fill-bits
-    fill-bits-requires-2
+    shr-enter-bits
+    enter-bits-requires-2
     shl-compare-bits
     rem-compare-bits
     compare-bits-requires-2

@@ -4,7 +4,7 @@ use mathlib.Core.Bool.{true}
 use native.Mathlib.Omega.{arith}
 use borrow.Author.Tests.{lt-ltb, le-ltb}
 use borrow.Author.Needs.{needs}
-use Rattle.pattern.specs.Counting.{counted}
+use Rattle.pattern.specs.Counting.{inRange}
 use Rattle.sequence.proofs.Taps.{taps}
 use Rattle.pattern.proofs.Sound.{sound}
 use Rattle.pattern.proofs.counter.refusal.Statement.{statement}
@@ -16,7 +16,7 @@ returns c = simp (lt-ltb _ _ (c .if1 .taken))
 in-range-requires : tie.Need-in-range-requires
 in-range-requires c κs = search needs
 
-inside : (c : tie.Then2) → counted (c .before .before .before .args .c) ≡ true
+inside : (c : tie.Then2) → inRange (c .before .before .before .args .c) ≡ true
 inside c = sym (c .before .in-range .ensures) ∙ c .if2 .taken
 
 cast-past-count : tie.Need-cast-past-count

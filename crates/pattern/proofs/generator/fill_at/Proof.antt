@@ -7,7 +7,7 @@ use borrow.Author.Needs.{needs}
 use lib.ListN.{length}
 use Rattle.sequence.specs.Sequence.{onward, bytes}
 use Rattle.sequence.specs.Patterns.{secondTap}
-use Rattle.pattern.specs.Private.{Runs}
+use Rattle.pattern.specs.Parts.{Advances}
 use Rattle.sequence.proofs.Taps.{other}
 use Rattle.pattern.proofs.Ranges.{registered-pattern, registered-at}
 use Rattle.pattern.proofs.generator.fill_at.Statement.{statement}
@@ -21,7 +21,7 @@ same-length : tie.Need-same-length
 same-length c = search needs
 
 runs : (p r : ℕ) (before after : List ℕ) (q m t : ℕ) → p ≡ m → secondTap m ≡ t
-    → (q ≡ onward m t (8 * length before) r) × (after ≡ bytes m t (length before) r) → Runs p r before q after
+    → (q ≡ onward m t (8 * length before) r) × (after ≡ bytes m t (length before) r) → Advances p r before q after
 runs p r before after q m t e f d = let s = ap secondTap e in record { register = cc (d .0); buffer = cc (d .1) }
 
 returns : tie.Need-returns

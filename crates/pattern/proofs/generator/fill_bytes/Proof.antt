@@ -5,7 +5,7 @@ use Prim.Native.Nat.{ℕ, _-_, _*_, _^_, _≤_, _<_}
 use native.Mathlib.Omega.{arith}
 use lib.ListN.{length, set, length-set}
 use Rattle.sequence.specs.Bits.{number}
-use Rattle.sequence.specs.Sequence.{onward, run}
+use Rattle.sequence.specs.Sequence.{onward, nextBits}
 use Rattle.sequence.proofs.Buffer.{upto, upto-none, upto-more, upto-all, onward-byte, onward-none}
 use Rattle.pattern.proofs.generator.fill_bytes.Statement.{statement}
 use Rattle.pattern.proofs.generator.fill_bytes.Tie as tie
@@ -43,7 +43,7 @@ loop-again c =
     let o = c .before .before .before .loop in
     let g = c .before .before .before .before .before .args in
     let b = c .before .ahead in
-    let v : b .result ≡ number (run (g .l) (g .t) 8 (onward (g .l) (g .t) (8 * o .i) (g .r))) = b .ensures .0 ∙ ap (λ (q : ℕ). number (run (g .l) (g .t) 8 q)) (o .inv .3) in (
+    let v : b .result ≡ number (nextBits (g .l) (g .t) 8 (onward (g .l) (g .t) (8 * o .i) (g .r))) = b .ensures .0 ∙ ap (λ (q : ℕ). number (nextBits (g .l) (g .t) 8 q)) (o .inv .3) in (
       omega arith,
       length-set (o .out) (o .i) (b .result) ∙ o .inv .1,
       ap₂ (λ (l : List ℕ) (x : ℕ). set l (o .i) x) (o .inv .2) v ∙ upto-more (g .l) (g .t) (g .r) (g .out .now) (o .i) (omega arith),

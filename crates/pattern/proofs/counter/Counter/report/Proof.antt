@@ -3,7 +3,7 @@ use mathlib.Core.Path.{_≡_, sym, ap, _∙_}
 use mathlib.Core.Bool.{true, not}
 use borrow.Author.Tests.{eq-eqb, ne-eqb, not-false}
 use borrow.Author.Needs.{needs}
-use Rattle.pattern.specs.Counting.{counted}
+use Rattle.pattern.specs.Counting.{inRange}
 use Rattle.pattern.proofs.Sound.{sound}
 use Rattle.pattern.proofs.counter.Counter.report.Statement.{statement}
 use Rattle.pattern.proofs.counter.Counter.report.Tie as tie
@@ -14,7 +14,7 @@ in-range-requires c κs = search needs
 returns : tie.Need-returns
 returns c = simp (sym (ap not (c .before .in-range .ensures)) ∙ c .if1 .taken)
 
-inside : (c : tie.Else1) → counted (c .before .before .args .self) ≡ true
+inside : (c : tie.Else1) → inRange (c .before .before .args .self) ≡ true
 inside c = sym (c .before .in-range .ensures) ∙ not-false _ (c .if1 .left)
 
 returns-2 : tie.Need-returns-2

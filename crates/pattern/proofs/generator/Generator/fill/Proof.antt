@@ -1,13 +1,13 @@
--- A refusal is the law `refused-by`, and has written nothing.
+-- A refusal has written nothing.
 use mathlib.Core.Path.{_≡_, refl, sym, _∙_}
 use mathlib.Core.Bool.{true, false}
 use lib.Dec.{ltb, eqb}
 use lib.ListN.{length}
 use borrow.Author.Needs.{needs}
 use Rattle.paper.specs.Numbers.{mostBytes}
-use Rattle.pattern.specs.Generation.{registered, advanced}
-use Rattle.pattern.specs.declared.generator.Filled.the-variants.{Advanced, Refused}
-use Rattle.pattern.proofs.Ranges.{refused-by, allowed}
+use Rattle.pattern.specs.Generation.{registered}
+use Rattle.pattern.proofs.Tests.{refuses}
+use Rattle.pattern.proofs.Ranges.{allowed}
 use Rattle.pattern.proofs.generator.Generator.fill.Statement.{statement}
 use Rattle.pattern.proofs.generator.Generator.fill.Tie as tie
 
@@ -16,10 +16,7 @@ refusal-requires c κs = search needs
 
 returns : tie.Need-returns
 returns c =
-    let a = c .before .before .before .args in
-    let g = a .self in
-    let n = length (a .out .now) in
-    record { answer = refused-by Refused (Advanced (advanced g n)) (g .pattern) (g .register) n _ (c .before .refusal .ensures) (c .if1 .taken); buffer = refl }
+    record { answer = refuses _ _ _ (c .before .refusal .ensures) (c .if1 .taken); buffer = refl }
 
 -- where nothing speaks against the buffer
 free : (c : tie.Else1) →

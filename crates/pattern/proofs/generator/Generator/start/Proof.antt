@@ -1,8 +1,6 @@
--- A refusal is the law `refused-by`, at no bytes.
-use mathlib.Core.Path.{sym, _∙_}
+-- What is owed is by what speaks against a buffer of no bytes.
 use borrow.Author.Needs.{needs}
-use Rattle.pattern.specs.declared.generator.Started.the-variants.{Ready, Refused}
-use Rattle.pattern.proofs.Ranges.{refused-by, allowed}
+use Rattle.pattern.proofs.Tests.{refuses, answers}
 use Rattle.pattern.proofs.generator.Generator.start.Statement.{statement}
 use Rattle.pattern.proofs.generator.Generator.start.Tie as tie
 
@@ -10,15 +8,10 @@ refusal-requires : tie.Need-refusal-requires
 refusal-requires c κs = search needs
 
 returns : tie.Need-returns
-returns c =
-    let a = c .before .before .args in
-    refused-by Refused (Ready (record { pattern = a .pattern; register = a .register })) (a .pattern) (a .register) 0 _ (c .before .refusal .ensures) (c .if1 .taken)
+returns c = refuses _ _ _ (c .before .refusal .ensures) (c .if1 .taken)
 
 returns-2 : tie.Need-returns-2
-returns-2 c =
-    let a = c .before .before .args in
-    let e = allowed (a .pattern) (a .register) 0 (sym (c .before .refusal .ensures) ∙ c .if1 .left) in
-    simp (e .1, e .2)
+returns-2 c = answers _ _ _ (c .before .refusal .ensures) (c .if1 .left)
 
 pub start-spec : {M : Type 1} → statement M
 start-spec = tie.close (tie.spec refusal-requires returns returns-2)

@@ -5,9 +5,9 @@ use native.Mathlib.Omega.{arith}
 use borrow.Author.Needs.{needs}
 use lib.Pow.{pow-mono, shl-lt, shl-exact}
 use Rattle.pattern.specs.Counting.{countOf, holding}
-use Rattle.sequence.proofs.Whole.{fed-filling-by}
-use Rattle.pattern.proofs.counter.fill_bits.Statement.{statement}
-use Rattle.pattern.proofs.counter.fill_bits.Tie as tie
+use Rattle.sequence.proofs.Whole.{fed-entering-by}
+use Rattle.pattern.proofs.counter.enter_bits.Statement.{statement}
+use Rattle.pattern.proofs.counter.enter_bits.Tie as tie
 
 add-t6 : tie.Need-add-t6
 add-t6 c = search needs
@@ -30,7 +30,7 @@ returns c =
     let s = a .c in
     ap (λ (x : ℕ). record { pattern = s .pattern; filled = s .filled + a .k; register = x + a .n; bits = s .bits; errors = s .errors })
     (shl-exact {a = s .register} (s .filled) (a .k) 64 (b .pre .register) (omega arith))
-    ∙ ap (holding (s .pattern)) (sym (fed-filling-by (a .l) (a .t) (countOf s) (a .n) (a .k) (b .pre .places) (b .pre .bits)))
+    ∙ ap (holding (s .pattern)) (sym (fed-entering-by (a .l) (a .t) (countOf s) (a .n) (a .k) (b .pre .places) (b .pre .bits)))
 
-pub fill-bits-spec : {M : Type 1} → statement M
-fill-bits-spec = tie.close (tie.spec add-t6 shl-t7 add-t8 returns)
+pub enter-bits-spec : {M : Type 1} → statement M
+enter-bits-spec = tie.close (tie.spec add-t6 shl-t7 add-t8 returns)

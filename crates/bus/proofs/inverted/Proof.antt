@@ -1,10 +1,10 @@
--- `turned` is what is missing from all ones.
+-- `inverted` is what is missing from all ones.
 use native.Mathlib.Omega.{arith}
 use borrow.Author.Needs.{needs}
 use Rattle.bus.proofs.Range.{shifted}
 use Rattle.bus.proofs.Inverse.{inverted-is}
-use Rattle.bus.proofs.turned.Statement.{statement}
-use Rattle.bus.proofs.turned.Tie as tie
+use Rattle.bus.proofs.inverted.Statement.{statement}
+use Rattle.bus.proofs.inverted.Tie as tie
 
 shl-result : tie.Need-shl-result
 shl-result c = search needs
@@ -18,5 +18,5 @@ sub-result-2 c = omega (arith, shifted (c .args .width) (c .pre .0))
 returns : tie.Need-returns
 returns c = omega (arith, shifted (c .args .width) (c .pre .0), inverted-is (c .args .width) (c .args .wires) (c .pre .1))
 
-pub turned-spec : {M : Type 1} → statement M
-turned-spec = tie.close (tie.spec shl-result sub-result sub-result-2 returns)
+pub inverted-spec : {M : Type 1} → statement M
+inverted-spec = tie.close (tie.spec shl-result sub-result sub-result-2 returns)

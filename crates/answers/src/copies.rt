@@ -1,13 +1,14 @@
 // Duplicate-add-parity's answers. An output holds ee before the call, so that the line shows what was left alone.
 use crate::fields;
 use crate::say;
+use dap::Damage;
+use dap::Judged;
 use dap::Made;
 
 fn parity(r: Made) {
-    if let Made::Parity(p) = r {
-        say::number(p as u64);
-    } else {
-        say::refused(r.number());
+    match r {
+        Made::Parity(p) => say::number(p as u64),
+        Made::Refused(n) => say::refused(n),
     }
 }
 
@@ -26,18 +27,26 @@ pub(crate) fn make(head: &[u8], data: &[u8]) {
     made(data, &mut first[..n], &mut second[..m]);
 }
 
-// What is damaged, by its number, or the refusal.
-fn damage(n: u8) {
-    if n < 4 {
-        say::number(n as u64);
-    } else {
-        say::refused(n);
+// What is damaged, as the cases number it.
+fn number(d: Damage) -> u64 {
+    match d {
+        Damage::Nothing => 0,
+        Damage::FirstCopy => 1,
+        Damage::SecondCopy => 2,
+        Damage::ParityNumber => 3,
+    }
+}
+
+fn judged(r: Judged) {
+    match r {
+        Judged::Found(d) => say::number(number(d)),
+        Judged::Refused(n) => say::refused(n),
     }
 }
 
 // The verdict, and what is handed back.
 pub(crate) fn read<'a>(head: &[u8], first: &'a [u8], second: &'a [u8]) {
     let parity = fields::byte(head, 6);
-    damage(dap::verdict(first, second, parity).number());
+    judged(dap::verdict(first, second, parity));
     say::bytes(dap::good(first, second, parity));
 }

@@ -8,6 +8,11 @@ pub(crate) fn number(n: u64) {
     io::write_all(STDOUT_FILENO, b" ");
 }
 
+pub(crate) fn two(a: u64, b: u64) {
+    number(a);
+    number(b);
+}
+
 pub(crate) fn three(a: u64, b: u64, c: u64) {
     number(a);
     number(b);

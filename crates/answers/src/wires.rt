@@ -6,19 +6,16 @@ use bus::Driven;
 use bus::Received;
 
 fn driven(r: Driven) {
-    if let Driven::Now(b) = r {
-        say::three(b.width as u64, b.wires as u64, b.invert as u64);
-    } else {
-        say::refused(r.number());
+    match r {
+        Driven::Now(b) => say::three(b.width as u64, b.wires as u64, b.invert as u64),
+        Driven::Refused(n) => say::refused(n),
     }
 }
 
 fn received(b: Bus) {
-    let r = bus::receive(b.width, b.wires, b.invert);
-    if let Received::Word(data) = r {
-        say::number(data as u64);
-    } else {
-        say::refused(r.number());
+    match bus::receive(b.width, b.wires, b.invert) {
+        Received::Word(data) => say::number(data as u64),
+        Received::Refused(n) => say::refused(n),
     }
 }
 

@@ -13,9 +13,6 @@ returns c = simp (lt-leb _ _ (c .if1 .taken))
 returns-2 : tie.Need-returns-2
 returns-2 c = simp (le-leb _ _ (c .before .before .if1 .left), lt-leb _ _ (c .if2 .taken))
 
-shl-if3 : tie.Need-shl-if3
-shl-if3 c = search needs
-
 returns-3 : tie.Need-returns-3
 returns-3 c = let e = c .before .before .before in
     let b = e .before .before .before .before .args .b in
@@ -33,4 +30,4 @@ returns-4 c = let e = c .before .before .before .before in
     (subst (λ (k : ℕ). b .wires < k) (shifted (b .width) (e .if2 .left)) (c .before .if3 .left)))
 
 pub in-range-spec : {M : Type 1} → statement M
-in-range-spec = tie.close (tie.spec returns returns-2 shl-if3 returns-3 returns-4)
+in-range-spec = tie.close (tie.spec returns returns-2 (search needs) returns-3 returns-4)

@@ -6,9 +6,6 @@ use Rattle.bus.proofs.Inverse.{inverted-is}
 use Rattle.bus.proofs.inverted.Statement.{statement}
 use Rattle.bus.proofs.inverted.Tie as tie
 
-shl-result : tie.Need-shl-result
-shl-result c = search needs
-
 sub-result : tie.Need-sub-result
 sub-result c = omega (arith, shifted (c .args .width) (c .pre .0))
 
@@ -19,4 +16,4 @@ returns : tie.Need-returns
 returns c = omega (arith, shifted (c .args .width) (c .pre .0), inverted-is (c .args .width) (c .args .wires) (c .pre .1))
 
 pub inverted-spec : {M : Type 1} → statement M
-inverted-spec = tie.close (tie.spec shl-result sub-result sub-result-2 returns)
+inverted-spec = tie.close (tie.spec (search needs) sub-result sub-result-2 returns)

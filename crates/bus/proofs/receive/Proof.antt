@@ -10,9 +10,6 @@ use Rattle.bus.proofs.Range.{in-range, undone-set}
 use Rattle.bus.proofs.receive.Statement.{statement}
 use Rattle.bus.proofs.receive.Tie as tie
 
-in-range-requires : tie.Need-in-range-requires
-in-range-requires c κs = search needs
-
 returns : tie.Need-returns
 returns c = simp (sym (c .before .in-range .ensures) ∙ not-true _ (c .if1 .taken))
 
@@ -33,4 +30,4 @@ returns-3 c = let a = c .before .before .before .before .args in
     simp (right (c .before .before), c .inverted .ensures, undone-set (a .width) (a .wires) (a .invert) (c .before .if2 .left))
 
 pub receive-spec : {M : Type 1} → statement M
-receive-spec = tie.close (tie.spec in-range-requires returns returns-2 inverted-requires returns-3)
+receive-spec = tie.close (tie.spec (search needs) returns returns-2 inverted-requires returns-3)

@@ -6,11 +6,8 @@ use Rattle.bus.specs.Rule.{state}
 use Rattle.bus.proofs.turned_over.Statement.{statement}
 use Rattle.bus.proofs.turned_over.Tie as tie
 
-inverted-requires : tie.Need-inverted-requires
-inverted-requires c κs = search needs
-
 returns : tie.Need-returns
 returns c = ap (λ (x : ℕ). state (c .before .args .width) x 1) (c .inverted .ensures)
 
 pub turned-over-spec : {M : Type 1} → statement M
-turned-over-spec = tie.close (tie.spec inverted-requires returns)
+turned-over-spec = tie.close (tie.spec (search needs) returns)

@@ -6,17 +6,8 @@ use borrow.Author.Needs.{needs}
 use Rattle.dap.proofs.empty_part.Statement.{statement}
 use Rattle.dap.proofs.empty_part.Tie as tie
 
-sub-result : tie.Need-sub-result
-sub-result c = search needs
-
-part-result-start : tie.Need-part-result-start
-part-result-start c = search needs
-
-part-result-end : tie.Need-part-result-end
-part-result-end c = search needs
-
 returns : tie.Need-returns
 returns c = (refl, ap (λ (x : ℕ). (c .before .args .a .ptr .0, x)) (zero-add (c .before .args .a .ptr .1)))
 
 pub empty-part-spec : {M : Type 1} → statement M
-empty-part-spec = tie.close (tie.spec sub-result part-result-start part-result-end returns)
+empty-part-spec = tie.close (tie.spec (search needs) (search needs) (search needs) returns)

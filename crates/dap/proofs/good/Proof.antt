@@ -12,21 +12,6 @@ use Rattle.dap.specs.Calls.{Judges, Part, Hands}
 use Rattle.dap.proofs.good.Statement.{statement}
 use Rattle.dap.proofs.good.Tie as tie
 
-verdict-requires : tie.Need-verdict-requires
-verdict-requires c κs = search needs
-
-enum-known-damage : tie.Need-enum-known-damage
-enum-known-damage c = search needs
-
-undamaged-requires : tie.Need-undamaged-requires
-undamaged-requires c κs = search needs
-
-enum-told : tie.Need-enum-told
-enum-told c = search needs
-
-empty-part-requires : tie.Need-empty-part-requires
-empty-part-requires c κs = search needs
-
 -- the part that goes with the verdict v goes with what was owed
 hands : (a b r : RefT (List ℕ)) (p : ℕ) {v w : Judged} → w ≡ v → Judges (now a) (now b) p w → Part (judged v) a b r → Hands a b p r
 hands a b r p e j = subst (λ (x : Answer Damage). Part x a b r) (sym (ap judged e) ∙ j)
@@ -47,10 +32,10 @@ pub good-spec : {M : Type 1} → statement M
 good-spec =
     tie.close
     (tie.spec
-    verdict-requires
-    enum-known-damage
-    undamaged-requires
-    enum-told
-    empty-part-requires
+    (search needs)
+    (search needs)
+    (search needs)
+    (search needs)
+    (search needs)
     returns
     returns-2)

@@ -7,9 +7,6 @@ use lib.Dec.{leb}
 use Rattle.dap.proofs.lengths_fit.Statement.{statement}
 use Rattle.dap.proofs.lengths_fit.Tie as tie
 
-sized-requires : tie.Need-sized-requires
-sized-requires c κs = search needs
-
 returns : tie.Need-returns
 returns c =
     let a = c .before .before .args in
@@ -26,4 +23,4 @@ returns-3 : tie.Need-returns-3
 returns-3 c = simp (some (c .before), le-leb _ _ (c .if2 .left))
 
 pub lengths-fit-spec : {M : Type 1} → statement M
-lengths-fit-spec = tie.close (tie.spec sized-requires returns returns-2 returns-3)
+lengths-fit-spec = tie.close (tie.spec (search needs) returns returns-2 returns-3)

@@ -10,9 +10,6 @@ use Rattle.laws.proofs.Truth.{two}
 use Rattle.dap.proofs.make.Statement.{statement}
 use Rattle.dap.proofs.make.Tie as tie
 
-lengths-fit-requires : tie.Need-lengths-fit-requires
-lengths-fit-requires c κs = search needs
-
 returns : tie.Need-returns
 returns c =
     record { answer = simp (sym (c .before .lengths-fit .ensures) ∙ not-true _ (c .if1 .taken)); first = refl; second = refl }
@@ -42,9 +39,6 @@ copy-requires-2 c κs = let f = fitting (c .before .before .before .before .befo
 weigh-requires : tie.Need-weigh-requires
 weigh-requires c κs = let f = fitting (c .before .before .before .before .before .before .before .before) in search needs
 
-cast-t16 : tie.Need-cast-t16
-cast-t16 c = search needs
-
 same-length : tie.Need-same-length
 same-length c = let f = fitting (c .before .before .before .before .before .before .before .before .before) in search needs
 
@@ -66,12 +60,12 @@ pub make-spec : {M : Type 1} → statement M
 make-spec =
     tie.close
     (tie.spec
-    lengths-fit-requires
+    (search needs)
     returns
     copy-requires
     copy-requires-2
     weigh-requires
-    cast-t16
+    (search needs)
     same-length
     same-length-2
     returns-2)

@@ -13,9 +13,6 @@ use Rattle.dap.specs.Parts.{judgement}
 use Rattle.dap.proofs.verdict.Statement.{statement}
 use Rattle.dap.proofs.verdict.Tie as tie
 
-sized-requires : tie.Need-sized-requires
-sized-requires c κs = search needs
-
 returns : tie.Need-returns
 returns c = simp (sym (c .before .sized .ensures) ∙ not-true _ (c .if1 .taken))
 
@@ -38,9 +35,6 @@ differing-requires c κs = (most (c .before .before), c .before .if2 .left)
 weigh-requires : tie.Need-weigh-requires
 weigh-requires c κs = most (c .before .before .before)
 
-judge-requires : tie.Need-judge-requires
-judge-requires c κs = search needs
-
 -- nothing is refused
 past : (c : tie.Else3)
     → let a = c .before .before .before .before .before .before .args in
@@ -58,11 +52,11 @@ pub verdict-spec : {M : Type 1} → statement M
 verdict-spec =
     tie.close
     (tie.spec
-    sized-requires
+    (search needs)
     returns
     returns-2
     returns-3
     differing-requires
     weigh-requires
-    judge-requires
+    (search needs)
     returns-4)

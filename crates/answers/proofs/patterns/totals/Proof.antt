@@ -7,9 +7,6 @@ use borrow.Author.Needs.{needs}
 use Rattle.answers.proofs.patterns.totals.Statement.{statement}
 use Rattle.answers.proofs.patterns.totals.Tie as tie
 
-three-requires : tie.Need-three-requires
-three-requires c κs = search needs
-
 no-nan : (x : Float) → T (eq x x) → T (not (isNan x))
 unfolding eq isNan
 no-nan nan t = absurd t
@@ -19,21 +16,12 @@ no-nan (fin s m e) t = tt
 float-to-bits-print-hex : tie.Need-float-to-bits-print-hex
 float-to-bits-print-hex c = no-nan _ (subst (λ (b : Bool). T b) (sym (c .if1 .taken)) tt)
 
-print-hex-requires : tie.Need-print-hex-requires
-print-hex-requires c κs = search needs
-
-returns : tie.Need-returns
-returns c = search needs
-
-returns-2 : tie.Need-returns-2
-returns-2 c = search needs
-
 pub totals-spec : {M : Type 1} → statement M
 totals-spec =
     tie.close
     (tie.spec
-    three-requires
+    (search needs)
     float-to-bits-print-hex
-    print-hex-requires
-    returns
-    returns-2)
+    (search needs)
+    (search needs)
+    (search needs))

@@ -5,12 +5,6 @@ use Rattle.bus.specs.Rule.{plain, inRange}
 use Rattle.bus.proofs.Bus.fresh.Statement.{statement}
 use Rattle.bus.proofs.Bus.fresh.Tie as tie
 
-plain-requires : tie.Need-plain-requires
-plain-requires c κs = search needs
-
-in-range-requires : tie.Need-in-range-requires
-in-range-requires c κs = search needs
-
 right : (c : tie.After-in-range) → inRange (plain (c .before .before .args .width) 0) ≡ c .in-range .result
 right c = sym (c .in-range .ensures ∙ ap inRange (c .before .plain .ensures))
 
@@ -21,4 +15,4 @@ returns-2 : tie.Need-returns-2
 returns-2 c = simp (right (c .before) ∙ c .if1 .left)
 
 pub fresh-spec : {M : Type 1} → statement M
-fresh-spec = tie.close (tie.spec plain-requires in-range-requires returns returns-2)
+fresh-spec = tie.close (tie.spec (search needs) (search needs) returns returns-2)

@@ -8,17 +8,8 @@ use Rattle.bus.proofs.Range.{in-range}
 use Rattle.bus.proofs.Bus.send.Statement.{statement}
 use Rattle.bus.proofs.Bus.send.Tie as tie
 
-in-range-requires : tie.Need-in-range-requires
-in-range-requires c κs = search needs
-
 returns : tie.Need-returns
 returns c = simp (sym (c .before .in-range .ensures) ∙ not-true _ (c .if1 .taken))
-
-plain-requires : tie.Need-plain-requires
-plain-requires c κs = search needs
-
-in-range-requires-2 : tie.Need-in-range-requires-2
-in-range-requires-2 c κs = search needs
 
 state-right : (c : tie.Else1) → inRange (c .before .before .args .self) ≡ true
 state-right c = sym (c .before .in-range .ensures) ∙ not-false _ (c .if1 .left)
@@ -55,10 +46,10 @@ pub send-spec : {M : Type 1} → statement M
 send-spec =
     tie.close
     (tie.spec
-    in-range-requires
+    (search needs)
     returns
-    plain-requires
-    in-range-requires-2
+    (search needs)
+    (search needs)
     returns-2
     crowded-requires
     turned-over-requires

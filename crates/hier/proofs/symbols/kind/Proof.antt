@@ -6,19 +6,10 @@ use Rattle.block.proofs.Tables.{kind-le}
 use Rattle.hier.proofs.symbols.kind.Statement.{statement}
 use Rattle.hier.proofs.symbols.kind.Tie as tie
 
-kinds-requires : tie.Need-kinds-requires
-kinds-requires c κs = search needs
-
-mul-result : tie.Need-mul-result
-mul-result c = search needs
-
-array-read-result : tie.Need-array-read-result
-array-read-result c = search needs
-
 returns : tie.Need-returns
 returns c = let a = c .before .args in
     let e = c .kinds .ensures .right (a .x) (c .before .pre) in
     (e, subst (λ (n : ℕ). n ≤ 3) (sym e) (kind-le (a .x) (c .before .pre)))
 
 pub kind-spec : {M : Type 1} → statement M
-kind-spec = tie.close (tie.spec kinds-requires mul-result array-read-result returns)
+kind-spec = tie.close (tie.spec (search needs) (search needs) (search needs) returns)

@@ -6,24 +6,6 @@ use Rattle.block.proofs.Parts.{member-lt}
 use Rattle.hier.proofs.symbols.symbol_of.Statement.{statement}
 use Rattle.hier.proofs.symbols.symbol_of.Tie as tie
 
-mul-i : tie.Need-mul-i
-mul-i c = search needs
-
-add-i : tie.Need-add-i
-add-i c = search needs
-
-cast-i : tie.Need-cast-i
-cast-i c = search needs
-
-pairs-requires : tie.Need-pairs-requires
-pairs-requires c κs = search needs
-
-mul-result : tie.Need-mul-result
-mul-result c = search needs
-
-array-read-result : tie.Need-array-read-result
-array-read-result c = search needs
-
 returns : tie.Need-returns
 returns c = let a = c .before .args in
     let e = c .pairs .ensures .right (a .subset) (a .c) (c .before .pre .0) (c .before .pre .1) in
@@ -31,4 +13,4 @@ returns c = let a = c .before .args in
 
 pub symbol-of-spec : {M : Type 1} → statement M
 symbol-of-spec =
-    tie.close (tie.spec mul-i add-i cast-i pairs-requires mul-result array-read-result returns)
+    tie.close (tie.spec (search needs) (search needs) (search needs) (search needs) (search needs) (search needs) returns)

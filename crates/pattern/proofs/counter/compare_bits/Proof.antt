@@ -13,17 +13,11 @@ use Rattle.pattern.proofs.counter.compare_bits.Tie as tie
 few : (c : tie.After-ahead) → ones (bitXor (c .ahead .result) (c .before .args .n)) ≤ c .before .args .k
 few c = let a = c .before .args in ones-le (a .k) (bitXor (c .ahead .result) (a .n)) (xor-lt (a .k) (c .ahead .result) (a .n) (c .ahead .ensures .1) (c .before .pre .1 .bits))
 
-ahead-requires : tie.Need-ahead-requires
-ahead-requires c κs = search needs
-
 cast-wrong : tie.Need-cast-wrong
 cast-wrong c = omega (arith, few c)
 
 moved-requires : tie.Need-moved-requires
 moved-requires c κs = search needs
-
-add-t9 : tie.Need-add-t9
-add-t9 c = search needs
 
 add-t11 : tie.Need-add-t11
 add-t11 c = omega (arith, few (c .before .before .before))
@@ -39,4 +33,4 @@ returns c =
 
 pub compare-bits-spec : {M : Type 1} → statement M
 compare-bits-spec =
-    tie.close (tie.spec ahead-requires cast-wrong moved-requires add-t9 add-t11 returns)
+    tie.close (tie.spec (search needs) cast-wrong moved-requires (search needs) add-t11 returns)

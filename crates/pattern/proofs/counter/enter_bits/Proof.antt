@@ -9,12 +9,6 @@ use Rattle.sequence.proofs.Whole.{fed-entering-by}
 use Rattle.pattern.proofs.counter.enter_bits.Statement.{statement}
 use Rattle.pattern.proofs.counter.enter_bits.Tie as tie
 
-add-t6 : tie.Need-add-t6
-add-t6 c = search needs
-
-shl-t7 : tie.Need-shl-t7
-shl-t7 c = search needs
-
 add-t8 : tie.Need-add-t8
 add-t8 c =
     let b = c .before .before in
@@ -33,4 +27,4 @@ returns c =
     ∙ ap (holding (s .pattern)) (sym (fed-entering-by (a .l) (a .t) (countOf s) (a .n) (a .k) (b .pre .places) (b .pre .bits)))
 
 pub enter-bits-spec : {M : Type 1} → statement M
-enter-bits-spec = tie.close (tie.spec add-t6 shl-t7 add-t8 returns)
+enter-bits-spec = tie.close (tie.spec (search needs) (search needs) add-t8 returns)

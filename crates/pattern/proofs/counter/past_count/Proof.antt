@@ -7,22 +7,10 @@ use Rattle.pattern.proofs.Tests.{ltb-same}
 use Rattle.pattern.proofs.counter.past_count.Statement.{statement}
 use Rattle.pattern.proofs.counter.past_count.Tie as tie
 
-mul-result : tie.Need-mul-result
-mul-result c = search needs
-
-add-result : tie.Need-add-result
-add-result c = search needs
-
-sub-result : tie.Need-sub-result
-sub-result c = search needs
-
-add-result-2 : tie.Need-add-result-2
-add-result-2 c = search needs
-
 returns : tie.Need-returns
 returns c =
     let a = c .args in
     ltb-same (mostCounted + (a .l - a .filled)) (a .bits + a .n * 8) mostCounted (a .bits + (8 * a .n - (a .l - a .filled))) (λ h. omega arith) (λ h. omega arith)
 
 pub past-count-spec : {M : Type 1} → statement M
-past-count-spec = tie.close (tie.spec mul-result add-result sub-result add-result-2 returns)
+past-count-spec = tie.close (tie.spec (search needs) (search needs) (search needs) (search needs) returns)

@@ -13,14 +13,8 @@ use Rattle.pattern.proofs.counter.refusal.Tie as tie
 returns : tie.Need-returns
 returns c = simp (lt-ltb _ _ (c .if1 .taken))
 
-in-range-requires : tie.Need-in-range-requires
-in-range-requires c κs = search needs
-
 inside : (c : tie.Then2) → inRange (c .before .before .before .args .c) ≡ true
 inside c = sym (c .before .in-range .ensures) ∙ c .if2 .taken
-
-cast-past-count : tie.Need-cast-past-count
-cast-past-count c = search needs
 
 past-count-requires : tie.Need-past-count-requires
 past-count-requires c κs =
@@ -44,4 +38,4 @@ returns-4 c = simp (le-ltb _ _ (c .before .before .if1 .left), sym (c .before .i
 pub refusal-spec : {M : Type 1} → statement M
 refusal-spec =
     tie.close
-    (tie.spec returns in-range-requires cast-past-count past-count-requires returns-2 returns-3 returns-4)
+    (tie.spec returns (search needs) (search needs) past-count-requires returns-2 returns-3 returns-4)

@@ -17,9 +17,6 @@ fill-bytes-requires : tie.Need-fill-bytes-requires
 fill-bytes-requires c κs =
     (registered-at _ _ (c .before .before .before .pre) 11 (c .before .if1 .taken), omega arith, omega arith, omega arith)
 
-same-length : tie.Need-same-length
-same-length c = search needs
-
 runs : (p r : ℕ) (before after : List ℕ) (q m t : ℕ) → p ≡ m → secondTap m ≡ t
     → (q ≡ onward m t (8 * length before) r) × (after ≡ bytes m t (length before) r) → Advances p r before q after
 runs p r before after q m t e f d = let s = ap secondTap e in record { register = cc (d .0); buffer = cc (d .1) }
@@ -37,9 +34,6 @@ fill-bytes-requires-2 : tie.Need-fill-bytes-requires-2
 fill-bytes-requires-2 c κs =
     (registered-at _ _ (c .before .before .before .pre) 31 (other-one (c .before)), omega arith, omega arith, omega arith)
 
-same-length-2 : tie.Need-same-length-2
-same-length-2 c = search needs
-
 returns-2 : tie.Need-returns-2
 returns-2 c =
     let b = c .before .before in
@@ -49,4 +43,4 @@ returns-2 c =
 pub fill-at-spec : {M : Type 1} → statement M
 fill-at-spec =
     tie.close
-    (tie.spec fill-bytes-requires same-length returns fill-bytes-requires-2 same-length-2 returns-2)
+    (tie.spec fill-bytes-requires (search needs) returns fill-bytes-requires-2 (search needs) returns-2)

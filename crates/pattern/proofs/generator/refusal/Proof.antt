@@ -7,9 +7,6 @@ use Rattle.pattern.specs.Generation.{registered}
 use Rattle.pattern.proofs.generator.refusal.Statement.{statement}
 use Rattle.pattern.proofs.generator.refusal.Tie as tie
 
-in-range-requires : tie.Need-in-range-requires
-in-range-requires c κs = search needs
-
 returns : tie.Need-returns
 returns c = simp (lt-ltb _ _ (c .if1 .taken))
 
@@ -26,4 +23,4 @@ returns-4 : tie.Need-returns-4
 returns-4 c = simp (le-ltb _ _ (c .before .before .if1 .left), inside (c .before), ne-eqb _ _ (c .if3 .left))
 
 pub refusal-spec : {M : Type 1} → statement M
-refusal-spec = tie.close (tie.spec in-range-requires returns returns-2 returns-3 returns-4)
+refusal-spec = tie.close (tie.spec (search needs) returns returns-2 returns-3 returns-4)

@@ -9,19 +9,10 @@ use Rattle.pattern.proofs.Sound.{parts}
 use Rattle.pattern.proofs.range.in_range.Statement.{statement}
 use Rattle.pattern.proofs.range.in_range.Tie as tie
 
-cast-l : tie.Need-cast-l
-cast-l c = search needs
-
-known-requires : tie.Need-known-requires
-known-requires c κs = search needs
-
 register-in-range-requires : tie.Need-register-in-range-requires
 register-in-range-requires c κs =
     let p = c .before .before .before .args .c .pattern in
     omega (arith, taps p (is-true {t = pattern p} (sym (c .before .known .ensures) ∙ c .if1 .taken)) .3)
-
-sums-in-range-requires : tie.Need-sums-in-range-requires
-sums-in-range-requires c κs = search needs
 
 returns : tie.Need-returns
 returns c =
@@ -41,10 +32,10 @@ pub in-range-spec : {M : Type 1} → statement M
 in-range-spec =
     tie.close
     (tie.spec
-    cast-l
-    known-requires
+    (search needs)
+    (search needs)
     register-in-range-requires
-    sums-in-range-requires
+    (search needs)
     returns
     returns-2
     returns-3)

@@ -12,21 +12,6 @@ use Rattle.sequence.proofs.Steps.{ahead-number, next-lt}
 use Rattle.pattern.proofs.steps.ahead.Statement.{statement}
 use Rattle.pattern.proofs.steps.ahead.Tie as tie
 
-sub-result : tie.Need-sub-result
-sub-result c = search needs
-
-shl-result : tie.Need-shl-result
-shl-result c = search needs
-
-sub-result-2 : tie.Need-sub-result-2
-sub-result-2 c = search needs
-
-shr-result : tie.Need-shr-result
-shr-result c = search needs
-
-shl-result-2 : tie.Need-shl-result-2
-shl-result-2 c = search needs
-
 rem-result : tie.Need-rem-result
 rem-result c = subst (λ (m : ℕ). 0 < m) (sym (one-shl (c .args .k) (omega arith))) (pow-pos (c .args .k))
 
@@ -42,4 +27,4 @@ returns c =
 pub ahead-spec : {M : Type 1} → statement M
 ahead-spec =
     tie.close
-    (tie.spec sub-result shl-result sub-result-2 shr-result shl-result-2 rem-result returns)
+    (tie.spec (search needs) (search needs) (search needs) (search needs) (search needs) rem-result returns)

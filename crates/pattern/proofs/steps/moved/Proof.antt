@@ -10,17 +10,11 @@ use Rattle.sequence.proofs.Steps.{onward-number, onward-lt}
 use Rattle.pattern.proofs.steps.moved.Statement.{statement}
 use Rattle.pattern.proofs.steps.moved.Tie as tie
 
-shl-result : tie.Need-shl-result
-shl-result c = search needs
-
 add-result : tie.Need-add-result
 add-result c =
     let a = c .args in
     omega
     (arith, shl-exact {a = a .r} (a .l) (a .k) 64 (c .pre .0) (omega arith), shl-lt {a = a .r} (a .l) (a .k) (c .pre .0), pow-mono {i = a .l + a .k} {j = 40} (omega arith), pow-mono {i = a .k} {j = 8} (omega arith))
-
-shl-result-2 : tie.Need-shl-result-2
-shl-result-2 c = search needs
 
 rem-result : tie.Need-rem-result
 rem-result c = subst (λ (m : ℕ). 0 < m) (sym (one-shl (c .args .l) (omega arith))) (pow-pos (c .args .l))
@@ -35,4 +29,4 @@ returns c =
     (e, subst (λ (n : ℕ). n < 2 ^ (a .l)) (sym e) (onward-lt (a .l) (a .t) (a .k) (a .r) (c .pre .0)))
 
 pub moved-spec : {M : Type 1} → statement M
-moved-spec = tie.close (tie.spec shl-result add-result shl-result-2 rem-result returns)
+moved-spec = tie.close (tie.spec (search needs) add-result (search needs) rem-result returns)

@@ -4,9 +4,6 @@ use borrow.Author.Needs.{needs}
 use Rattle.pattern.proofs.counter.Counter.fresh.Statement.{statement}
 use Rattle.pattern.proofs.counter.Counter.fresh.Tie as tie
 
-known-requires : tie.Need-known-requires
-known-requires c κs = search needs
-
 returns : tie.Need-returns
 returns c = simp (sym (c .before .known .ensures) ∙ c .if1 .taken)
 
@@ -14,4 +11,4 @@ returns-2 : tie.Need-returns-2
 returns-2 c = simp (sym (c .before .known .ensures) ∙ c .if1 .left)
 
 pub fresh-spec : {M : Type 1} → statement M
-fresh-spec = tie.close (tie.spec known-requires returns returns-2)
+fresh-spec = tie.close (tie.spec (search needs) returns returns-2)

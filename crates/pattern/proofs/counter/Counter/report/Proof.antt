@@ -8,9 +8,6 @@ use Rattle.pattern.proofs.Sound.{sound}
 use Rattle.pattern.proofs.counter.Counter.report.Statement.{statement}
 use Rattle.pattern.proofs.counter.Counter.report.Tie as tie
 
-in-range-requires : tie.Need-in-range-requires
-in-range-requires c κs = search needs
-
 returns : tie.Need-returns
 returns c = simp (sym (ap not (c .before .in-range .ensures)) ∙ c .if1 .taken)
 
@@ -27,4 +24,4 @@ returns-3 : tie.Need-returns-3
 returns-3 c = c .rated .ensures ∙ sym (simp (inside (c .before .before), ne-eqb _ _ (c .before .if2 .left)))
 
 pub report-spec : {M : Type 1} → statement M
-report-spec = tie.close (tie.spec in-range-requires returns returns-2 rated-requires returns-3)
+report-spec = tie.close (tie.spec (search needs) returns returns-2 rated-requires returns-3)

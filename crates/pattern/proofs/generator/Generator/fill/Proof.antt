@@ -11,9 +11,6 @@ use Rattle.pattern.proofs.Ranges.{allowed}
 use Rattle.pattern.proofs.generator.Generator.fill.Statement.{statement}
 use Rattle.pattern.proofs.generator.Generator.fill.Tie as tie
 
-refusal-requires : tie.Need-refusal-requires
-refusal-requires c κs = search needs
-
 returns : tie.Need-returns
 returns c =
     record { answer = refuses _ _ _ (c .before .refusal .ensures) (c .if1 .taken); buffer = refl }
@@ -30,9 +27,6 @@ free c =
 fill-at-requires : tie.Need-fill-at-requires
 fill-at-requires c κs = free (c .before) .1
 
-same-length : tie.Need-same-length
-same-length c = search needs
-
 returns-2 : tie.Need-returns-2
 returns-2 c =
     let b = c .before .before in
@@ -41,4 +35,4 @@ returns-2 c =
     record { answer = simp (e .0, e .1, e .2, d .register); buffer = d .buffer }
 
 pub fill-spec : {M : Type 1} → statement M
-fill-spec = tie.close (tie.spec refusal-requires returns fill-at-requires same-length returns-2)
+fill-spec = tie.close (tie.spec (search needs) returns fill-at-requires (search needs) returns-2)

@@ -4,9 +4,6 @@ use Rattle.pattern.proofs.Tests.{refuses, answers}
 use Rattle.pattern.proofs.generator.Generator.start.Statement.{statement}
 use Rattle.pattern.proofs.generator.Generator.start.Tie as tie
 
-refusal-requires : tie.Need-refusal-requires
-refusal-requires c κs = search needs
-
 returns : tie.Need-returns
 returns c = refuses _ _ _ (c .before .refusal .ensures) (c .if1 .taken)
 
@@ -14,4 +11,4 @@ returns-2 : tie.Need-returns-2
 returns-2 c = answers _ _ _ (c .before .refusal .ensures) (c .if1 .left)
 
 pub start-spec : {M : Type 1} → statement M
-start-spec = tie.close (tie.spec refusal-requires returns returns-2)
+start-spec = tie.close (tie.spec (search needs) returns returns-2)

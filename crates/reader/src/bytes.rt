@@ -13,17 +13,20 @@ use crate::read_by;
 use crate::verdict_of;
 use paper::Listed;
 
+// A frame is put together a turn before it is read: whole, not for its bytes alone.
 fn read_each(c: &[u16; 4096], b: &[u16; 2048], frames: &[u8], data: &mut [u8], verdicts: &mut [u8])
     requires { ⌜ (length (now frames) ≤ length (now «data»)) × (length (now frames) / 8 ≤ length (now verdicts)) ⌝ }
     ensures data { λ _. ⌜ ShowsBytesBy (now (c .entry)) (now (b .entry)) dataIn (numbersOf (now (frames .entry))) (lent «data») ⌝ }
     ensures verdicts { λ _. ⌜ ShowsBy (now (c .entry)) (now (b .entry)) verdict (numbersOf (now (frames .entry))) (lent verdicts) ⌝ }
 {
     let mut i = 0;
+    let mut frame = octets::number(frames, i);
     while i < frames.len() / 8 {
-        let r = read_by(c, b, octets::number(frames, i));
+        let r = read_by(c, b, frame);
         octets::store(data, i, data_of(r));
         verdicts[i] = verdict_of(r);
         i += 1;
+        frame = octets::number(frames, i);
     }
 }
 

@@ -10,14 +10,13 @@ use borrow.Author.Tests.{ltb-true, lt-ltb}
 use lib.ListN.{length, getD, take, drop, take-append-drop, length-append, length-take, length-drop, List·getD-append}
 use lib.Seq.{getD-append-add, getD-take, getD-drop, length-take-le, drop-drop}
 use Rattle.paper.specs.Numbers.{outside, unfit, unless}
-use Rattle.paper.specs.Answer.{Answer, gives, refused, owed, done, listed}
+use Rattle.paper.specs.Answer.{Answer, gives, owed, done, listed}
 use Rattle.paper.proofs.Answer.{gives-one, refused-one, never-both, listed-one}
-use Rattle.laws.specs.Bits.{Octets}
 use Rattle.laws.specs.Lent.{Left}
 use Rattle.laws.proofs.Writing.{one-left}
 use Rattle.octets.specs.Octets.{joined, inBytes}
 use Rattle.octets.specs.Answers.{answer}
-use Rattle.octets.specs.Calls.{there, inside, placed, Gets, Puts}
+use Rattle.octets.specs.Calls.{there, inside, placed}
 use Rattle.octets.specs.Claims.{PutBack, GotBack, OthersStay, OneGot, OnePut}
 use Rattle.octets.specs.declared.place.Got.{Got}
 use Rattle.octets.specs.declared.place.Got.the-variants.{Number, Refused}

@@ -9,12 +9,12 @@
 -- │ in-joined     │ the bytes of a number that bytes make are those bytes          │
 -- └───────────────┴────────────────────────────────────────────────────────────────┘
 use mathlib.Core.Path.{_≡_, refl, sym, ap, ap₂, _∙_, subst}
-use mathlib.Core.List.{List, [], _∷_}
+use mathlib.Core.List.{List, _∷_}
 use Prim.Native.Nat.{ℕ, zero, suc, _+_, _*_, _/_, _%_, _^_, _<_, _≤_}
-use native.Mathlib.Nat.{add-zero, add-assoc, add-comm, mul-assoc, mul-comm, pow-suc, pow-succ', one-le-pow, mod-lt, mod-eq-of-lt, zero-lt-suc, mul-add-div-right, mul-add-mod-self-right}
+use native.Mathlib.Nat.{add-zero, mul-assoc, pow-suc, pow-succ', one-le-pow, mod-lt, mod-eq-of-lt, zero-lt-suc, mul-add-div-right, mul-add-mod-self-right}
 use native.Mathlib.Numerals.{add-one}
 use native.Mathlib.Omega.{arith}
-use lib.Arith.{mod-mul, digits-lt, digits-div, digits-mod}
+use lib.Arith.{mod-mul, digits-lt, digits-div}
 use lib.ListN.{length, getD, take, drop}
 use lib.Seq.{drop-cons}
 use Rattle.laws.specs.Bits.{Octets}

@@ -10,9 +10,9 @@
 -- │ rest-more     │ what is left of the number then                                │
 -- │ part-placed   │ a part that came back as a number's bytes                      │
 -- └───────────────┴────────────────────────────────────────────────────────────────┘
-use mathlib.Core.Path.{_≡_, refl, sym, ap, ap₂, _∙_, subst}
+use mathlib.Core.Path.{_≡_, refl, sym, ap, ap₂, _∙_}
 use mathlib.Core.Bool.{Bool, true, false, _&&_}
-use mathlib.Core.List.{List, [], _∷_, _++_}
+use mathlib.Core.List.{List, _∷_, _++_}
 use Prim.Native.Nat.{ℕ, zero, suc, _+_, _-_, _*_, _/_, _%_, _^_, _<_, _≤_}
 use native.Mathlib.Nat.{pow-suc, pow-le-pow-right, zero-lt-suc, suc-mul, div-div-eq-div-mul, div-eq-of-lt, div-lt-iff-lt-mul}
 use native.Mathlib.Numerals.{add-one}
@@ -21,7 +21,7 @@ use borrow.Author.Tests.{ltb-true, leb-true, eqb-true, lt-ltb, le-leb, eq-eqb}
 use lib.Dec.{eqb, leb}
 use lib.Arith.{digits-lt}
 use lib.Pow.{pow-add}
-use lib.ListN.{length, getD, take, drop, set, length-set}
+use lib.ListN.{length, take, drop, set, length-set}
 use lib.Seq.{drop-cons, drop-drop, drop-set-lt, getD-set-same}
 use Rattle.laws.proofs.Truth.{two}
 use Rattle.octets.specs.Octets.{inBytes}

@@ -19,10 +19,10 @@ use native.Mathlib.Nat.{div-one, zero-lt-suc}
 use native.Mathlib.Omega.{arith}
 use borrow.Author.Tests.{lt-ltb}
 use lib.Dec.{T, eqb}
-use lib.ListN.{length, getD, take, drop, set, length-append, length-drop}
+use lib.ListN.{length, take, drop, set, length-append, length-drop}
 use lib.Seq.{take-at, drop-at, drop-drop}
 use Rattle.laws.specs.Bits.{Octets}
-use Rattle.octets.specs.Octets.{joined, numbers, numbersOf, inBytes, eight, bytesOf, stored}
+use Rattle.octets.specs.Octets.{numbers, numbersOf, inBytes, eight, bytesOf, stored}
 use Rattle.octets.specs.Claims.{BytesAre, NumbersBack, HighestFirst}
 use Rattle.octets.proofs.Digits.{length-in, in-octets, back}
 use Rattle.octets.proofs.Joined.{numbers-join}

@@ -11,7 +11,6 @@
 -- │ OneTaken     │ no second answer or list meets the contract of `numbers`       │
 -- └──────────────┴────────────────────────────────────────────────────────────────┘
 use mathlib.Core.Path.{_≡_}
-use mathlib.Core.Bool.{true}
 use mathlib.Core.List.{List, [], _∷_}
 use mathlib.Core.Logic.{_⊎_}
 use Prim.Native.Nat.{ℕ, _+_, _^_, _<_, _≤_}
@@ -19,9 +18,9 @@ use lib.ListN.{length, getD}
 use Rattle.paper.specs.Answer.{gives, done, listed}
 use Rattle.paper.specs.declared.Listed.{Listed}
 use Rattle.laws.specs.Bits.{Octets}
-use Rattle.octets.specs.Octets.{joined, numbersOf, bytesOf, Taken}
+use Rattle.octets.specs.Octets.{numbersOf, bytesOf, Taken}
 use Rattle.octets.specs.Answers.{answer}
-use Rattle.octets.specs.Calls.{there, Gets, Puts}
+use Rattle.octets.specs.Calls.{Gets, Puts}
 use Rattle.octets.specs.declared.place.Got.{Got}
 
 abbrev pub BytesAre : Type 0

@@ -1,7 +1,6 @@
 // A number of n bytes, 1 to 8, from any place on, highest byte first.
 ghost use mathlib.Core.Path.{_≡_};
-ghost use mathlib.Core.Bool.{true};
-ghost use Prim.Native.Nat.{_+_, _≤_, _<_, _^_};
+ghost use Prim.Native.Nat.{_+_, _≤_, _<_};
 ghost use lib.ListN.{length};
 ghost use Rattle.paper.specs.Answer.{listed};
 ghost use Rattle.octets.specs.Octets.{joined, inBytes};

@@ -1,8 +1,12 @@
 -- The answers by their cases.
 -- ┌───────────────┬────────────────────────────────────────────────────────────────┐
--- │ tests         │ the numbers, in the order of the tests                         │
+-- │ tests         │ the refusals, in the order of the tests                        │
+-- │ few-frames    │ what the range of a state says of its frames                   │
+-- │ few-pads      │ and of its wrong pads                                          │
 -- │ refuse-…      │ the refusals                                                   │
--- │ accept        │ the next tally                                                 │
+-- │ accept        │ the next tally, or 11 for the lists                            │
+-- │ past-told     │ lists without room: 20, where they hold verdicts and flags     │
+-- │ past-new      │ and 11 where not                                               │
 -- │ Taken         │ what an accepting answer tells of the state and the lists      │
 -- │ taken         │ that it does                                                   │
 -- │ one-answer …  │ the statements of specs/Claims.antt by these names             │
@@ -11,119 +15,141 @@ use mathlib.Core.Path.{_≡_, refl, sym, ap, _∙_, subst}
 use mathlib.Core.Bool.{Bool, true, false, cond, not, _&&_}
 use mathlib.Core.List.{List}
 use Prim.Native.Nat.{ℕ, _+_, _≤_, _<_}
-use native.Mathlib.Omega.{arith}
 use borrow.Author.Tests.{eq-eqb, ne-eqb, eqb-true, lt-ltb, le-ltb, ltb-false, le-leb, leb-true}
 use lib.Dec.{eqb, leb}
 use lib.ListN.{length}
-use Rattle.paper.specs.Numbers.{unfit, outside, pastCount, mostCounted}
-use Rattle.tally.specs.Ranges.{isVerdict, isFlag, every, lawful, acceptedIn, framesIn, inRange}
-use Rattle.tally.specs.Counts.{after}
-use Rattle.tally.specs.Adds.{numberOf, refusal, Adds, overfull}
-use Rattle.tally.specs.Claims.{OneAnswer, SomeAnswer, StaysInRange}
+use Rattle.paper.specs.Numbers.{unfit, outside, pastCount, mostCounted, unless}
+use Rattle.paper.specs.Answer.{Answer, gives, refused, owed}
+use Rattle.paper.proofs.Answer.{gives-one, refused-one, never-both}
+use Rattle.tally.specs.Ranges.{isVerdict, isFlag, every, known, acceptedIn, framesIn, inRange}
+use Rattle.tally.specs.Fold.{after}
+use Rattle.tally.specs.Answers.{answer, howMany}
+use Rattle.tally.specs.Calls.{refusal, Adds, Sums, overfull}
+use Rattle.tally.specs.Parts.{Folds, Past}
+use Rattle.tally.specs.Claims.{OneAnswer, SomeAnswer, OneSum, StaysInRange}
 use Rattle.tally.specs.declared.Tally.{Tally}
 use Rattle.tally.specs.declared.Added.{Added}
-use Rattle.tally.specs.declared.Added.the-variants.{Next, Unequal, OutOfRange, Full}
+use Rattle.tally.specs.declared.Added.the-variants.{Next, Refused}
+use Rattle.tally.specs.declared.HowMany.{HowMany}
+use Rattle.tally.specs.declared.HowMany.the-variants as many
 use Rattle.laws.proofs.Truth.{two}
-use Rattle.tally.proofs.Counting.{counts-each, wrong-few}
+use Rattle.tally.proofs.Steps.{counts-each, pads-few}
 
 abbrev pub tests : Bool → Bool → Bool → Bool → ℕ
-tests equal inside known past = cond (not equal) unfit (cond (not (inside && known)) outside (cond past pastCount 0))
+tests equal inside told past = cond (not equal) unfit (cond (not (inside && told)) outside (cond past pastCount 0))
 
-module _ (inside known past : Bool) where
-  first : (equal : Bool) → equal ≡ false → unfit ≡ tests equal inside known past
-  first equal e = simp e
+none-first : {w u : Tally} (a b c d : Bool) → gives u ≡ owed (tests a b c d) w → (a ≡ true) × (b ≡ true) × (c ≡ true) × (d ≡ false) × (u ≡ w)
+none-first {w} {u} false b c d e = absurd (never-both u unfit e)
+none-first {w} {u} true false c d e = absurd (never-both u outside e)
+none-first {w} {u} true true false d e = absurd (never-both u outside e)
+none-first {w} {u} true true true true e = absurd (never-both u pastCount e)
+none-first {w} {u} true true true false e = (refl, refl, refl, refl, gives-one u w e)
 
-  second : (equal : Bool) → equal ≡ true → inside && known ≡ false → outside ≡ tests equal inside known past
-  second equal e f = simp (e, f)
+pub few-frames : (t : Tally) → inRange t ≡ true → framesIn t ≤ mostCounted
+few-frames t e = leb-true (framesIn t) mostCounted (two (leb (framesIn t) mostCounted) (leb (t .«pad_wrong») (acceptedIn t)) e .0)
 
-  third : (equal : Bool) → equal ≡ true → inside ≡ true → known ≡ true → past ≡ true → pastCount ≡ tests equal inside known past
-  third equal e f g h = simp (e, f, g, h)
+pub few-pads : (t : Tally) → inRange t ≡ true → t .«pad_wrong» ≤ acceptedIn t
+few-pads t e = leb-true (t .«pad_wrong») (acceptedIn t) (two (leb (framesIn t) mostCounted) (leb (t .«pad_wrong») (acceptedIn t)) e .1)
 
-  last : (equal : Bool) → equal ≡ true → inside ≡ true → known ≡ true → past ≡ false → 0 ≡ tests equal inside known past
-  last equal e f g h = simp (e, f, g, h)
-
-none-first : (a b c d : Bool) → tests a b c d ≡ 0 → (a ≡ true) × (b ≡ true) × (c ≡ true) × (d ≡ false)
-none-first false b c d e = absurd (omega arith)
-none-first true false c d e = absurd (omega arith)
-none-first true true false d e = absurd (omega arith)
-none-first true true true true e = absurd (omega arith)
-none-first true true true false e = (refl, refl, refl, refl)
-
+-- the four ways of a call
 module _ (t : Tally) (vs ps : List ℕ) where
-  abbrev equal : Bool
-  equal = eqb (length vs) (length ps)
+  pub refuse-unequal : (length vs ≡ length ps → ⊥) → Adds t vs ps (refused unfit)
+  unfolding Adds
+  refuse-unequal e = simp (ne-eqb _ _ e)
 
-  pub refuse-unequal : (length vs ≡ length ps → ⊥) → Adds t vs ps Unequal
-  refuse-unequal e = record { number = first (inRange t) (lawful vs ps) (overfull t vs ps) equal (ne-eqb _ _ e); next = λ u h. cc }
+  module _ (e : length vs ≡ length ps) where
+    pub refuse-range : inRange t ≡ false → Adds t vs ps (refused outside)
+    unfolding Adds
+    refuse-range f = simp (eq-eqb _ _ e, f)
 
-  pub refuse-outside : length vs ≡ length ps → inRange t && lawful vs ps ≡ false → Adds t vs ps OutOfRange
-  refuse-outside e f = record { number = second (inRange t) (lawful vs ps) (overfull t vs ps) equal (eq-eqb _ _ e) f; next = λ u h. cc }
+    module _ (f : inRange t ≡ true) where
+      sums : known vs ps ≡ true → framesIn (after t vs ps) ≡ framesIn t + length vs
+      sums k = counts-each t vs ps (two (every isVerdict vs) (every isFlag ps) k .0)
 
-  -- what an accepting answer tells
-  pub record Taken : Type 0 where
-    pub lengths : length vs ≡ length ps
-    pub range : inRange t ≡ true
-    pub known : lawful vs ps ≡ true
-    pub room : framesIn (after t vs ps) ≤ mostCounted
+      pub refuse-past : (a : Answer Tally) → mostCounted < framesIn t + length vs → Past vs ps a → Adds t vs ps a
+      unfolding Adds Past
+      refuse-past a h p = p ∙ by (known vs ps) refl
+        where
+          by : (b : Bool) → known vs ps ≡ b → refused (cond b pastCount outside) ≡ owed (refusal t vs ps) (after t vs ps)
+          by true k = simp (eq-eqb _ _ e, f, k, lt-ltb mostCounted (framesIn (after t vs ps)) (subst (λ (n : ℕ). mostCounted < n) (sym (sums k)) h))
+          by false k = simp (eq-eqb _ _ e, f, k)
 
-  sums : lawful vs ps ≡ true → framesIn (after t vs ps) ≡ framesIn t + length vs
-  sums e = counts-each t vs ps (two (every isVerdict vs) (every isFlag ps) e .0)
+      pub accept : (a : Answer Tally) → framesIn t + length vs ≤ mostCounted → Folds t vs ps a → Adds t vs ps a
+      unfolding Adds Folds
+      accept a h p = p ∙ by (known vs ps) refl
+        where
+          by : (b : Bool) → known vs ps ≡ b → owed (unless outside b) (after t vs ps) ≡ owed (refusal t vs ps) (after t vs ps)
+          by true k = simp (eq-eqb _ _ e, f, k, le-ltb mostCounted (framesIn (after t vs ps)) (subst (λ (n : ℕ). n ≤ mostCounted) (sym (sums k)) h))
+          by false k = simp (eq-eqb _ _ e, f, k)
 
-  module _ (e : length vs ≡ length ps) (f : inRange t ≡ true) (g : lawful vs ps ≡ true) where
-    pub refuse-full : mostCounted < framesIn t + length vs → Adds t vs ps Full
-    refuse-full h =
-        record {
-          number = third (inRange t) (lawful vs ps) (overfull t vs ps) equal (eq-eqb _ _ e) f g
-              (lt-ltb _ _ (subst (λ (n : ℕ). mostCounted < n) (sym (sums g)) h));
-          next = λ u h. cc;
-        }
+-- lists without room, folded from any tally: their 11, or 20
+pub past-told : (t u : Tally) (vs ps : List ℕ) → Folds t vs ps (gives u) → Past vs ps (refused pastCount)
+unfolding Folds Past
+past-told t u vs ps e = by (known vs ps) e
+  where
+    by : (b : Bool) → gives u ≡ owed (unless outside b) (after t vs ps) → _≡_ {A = Answer Tally} (refused pastCount) (refused (cond b pastCount outside))
+    by true e = refl
+    by false e = absurd (never-both u outside e)
 
-    pub accept : framesIn t + length vs ≤ mostCounted → Adds t vs ps (Next (after t vs ps))
-    accept h =
-        record {
-          number = last (inRange t) (lawful vs ps) (overfull t vs ps) equal (eq-eqb _ _ e) f g
-              (le-ltb _ _ (subst (λ (n : ℕ). n ≤ mostCounted) (sym (sums g)) h));
-          next = λ u h. cc;
-        }
+pub past-new : (t : Tally) (n : ℕ) (vs ps : List ℕ) → Folds t vs ps (refused n) → Past vs ps (refused n)
+unfolding Folds Past
+past-new t n vs ps e = by (known vs ps) e
+  where
+    by : (b : Bool) → refused n ≡ owed (unless outside b) (after t vs ps) → _≡_ {A = Answer Tally} (refused n) (refused (cond b pastCount outside))
+    by true e = absurd (never-both (after t vs ps) n (sym e))
+    by false e = e
 
-  pub taken : refusal t vs ps ≡ 0 → Taken
-  taken e = let z = none-first equal (inRange t) (lawful vs ps) (overfull t vs ps) e in
-      record { lengths = eqb-true _ _ (z .0); range = z .1; known = z .2; room = ltb-false mostCounted (framesIn (after t vs ps)) (z .3) }
+-- what an accepting answer tells
+pub record Taken (t u : Tally) (vs ps : List ℕ) : Type 0 where
+  pub lengths : length vs ≡ length ps
+  pub range : inRange t ≡ true
+  pub told : known vs ps ≡ true
+  pub room : framesIn (after t vs ps) ≤ mostCounted
+  pub next : u ≡ after t vs ps
 
--- an answer to any tests
-any : (w : Tally) (a b c d : Bool) → (r : Added) × (numberOf r ≡ tests a b c d) × ((u : Tally) → r ≡ Next u → u ≡ w)
-any w false b c d = (Unequal, refl, λ u e. cc)
-any w true false c d = (OutOfRange, refl, λ u e. cc)
-any w true true false d = (OutOfRange, refl, λ u e. cc)
-any w true true true true = (Full, refl, λ u e. cc)
-any w true true true false = (Next w, refl, λ u e. cc)
+pub taken : (t u : Tally) (vs ps : List ℕ) → Adds t vs ps (gives u) → Taken t u vs ps
+unfolding Adds
+taken t u vs ps e =
+    let z = none-first (eqb (length vs) (length ps)) (inRange t) (known vs ps) (overfull t vs ps) e in
+    record {
+      lengths = eqb-true _ _ (z .0);
+      range = z .1;
+      told = z .2;
+      room = ltb-false mostCounted (framesIn (after t vs ps)) (z .3);
+      next = z .4;
+    }
+
+-- every answer is one of an enum's
+held : (a : Answer Tally) → (r : Added) × (answer r ≡ a)
+held (gives u) = (Next u, refl)
+held (refused n) = (Refused n, refl)
 
 pub some-answer : SomeAnswer
-some-answer t vs ps =
-    let s = any (after t vs ps) (equal t vs ps) (inRange t) (lawful vs ps) (overfull t vs ps) in
-    (s .0, record { number = s .1; next = s .2 })
+unfolding Adds
+some-answer t vs ps = held (owed (refusal t vs ps) (after t vs ps))
 
 pub one-answer : OneAnswer
-one-answer t vs ps (Next u) (Next w) p q = ap Next (p .next u refl ∙ sym (q .next w refl))
-one-answer t vs ps (Next u) Unequal p q = absurd (let z = p .number ∙ sym (q .number) in omega arith)
-one-answer t vs ps (Next u) OutOfRange p q = absurd (let z = p .number ∙ sym (q .number) in omega arith)
-one-answer t vs ps (Next u) Full p q = absurd (let z = p .number ∙ sym (q .number) in omega arith)
-one-answer t vs ps Unequal (Next w) p q = absurd (let z = p .number ∙ sym (q .number) in omega arith)
-one-answer t vs ps Unequal Unequal p q = refl
-one-answer t vs ps Unequal OutOfRange p q = absurd (let z = p .number ∙ sym (q .number) in omega arith)
-one-answer t vs ps Unequal Full p q = absurd (let z = p .number ∙ sym (q .number) in omega arith)
-one-answer t vs ps OutOfRange (Next w) p q = absurd (let z = p .number ∙ sym (q .number) in omega arith)
-one-answer t vs ps OutOfRange Unequal p q = absurd (let z = p .number ∙ sym (q .number) in omega arith)
-one-answer t vs ps OutOfRange OutOfRange p q = refl
-one-answer t vs ps OutOfRange Full p q = absurd (let z = p .number ∙ sym (q .number) in omega arith)
-one-answer t vs ps Full (Next w) p q = absurd (let z = p .number ∙ sym (q .number) in omega arith)
-one-answer t vs ps Full Unequal p q = absurd (let z = p .number ∙ sym (q .number) in omega arith)
-one-answer t vs ps Full OutOfRange p q = absurd (let z = p .number ∙ sym (q .number) in omega arith)
-one-answer t vs ps Full Full p q = refl
+unfolding Adds
+one-answer t vs ps r s p q = by r s (p ∙ sym q)
+  where
+    by : (r s : Added) → answer r ≡ answer s → r ≡ s
+    by (Next u) (Next w) e = ap Next (gives-one u w e)
+    by (Next u) (Refused n) e = absurd (never-both u n e)
+    by (Refused n) (Next u) e = absurd (never-both u n (sym e))
+    by (Refused m) (Refused n) e = ap Refused (refused-one m n e)
+
+pub one-sum : OneSum
+unfolding Sums
+one-sum t r s p q = by r s (p ∙ sym q)
+  where
+    by : (r s : HowMany) → howMany r ≡ howMany s → r ≡ s
+    by (many.Frames m) (many.Frames n) e = ap many.Frames (gives-one m n e)
+    by (many.Frames m) (many.Refused n) e = absurd (never-both m n e)
+    by (many.Refused m) (many.Frames n) e = absurd (never-both n m (sym e))
+    by (many.Refused m) (many.Refused n) e = ap many.Refused (refused-one m n e)
 
 pub stays-in-range : StaysInRange
 stays-in-range t u vs ps a =
-    let k = taken t vs ps (sym (a .number)) in
-    let r = two (leb (framesIn t) mostCounted) (leb (t .«pad_wrong») (acceptedIn t)) (k .range) in
-    let p : after t vs ps .«pad_wrong» ≤ acceptedIn (after t vs ps) = omega (arith, wrong-few vs ps, leb-true (t .«pad_wrong») (acceptedIn t) (r .1)) in
-    ap inRange (a .next u refl) ∙ simp (le-leb _ _ (k .room), le-leb _ _ p)
+    let k = taken t u vs ps a in
+    let p = pads-few t vs ps (few-pads t (k .range)) in
+    ap inRange (k .next) ∙ simp (le-leb _ _ (k .room), le-leb _ _ p)

@@ -1,6 +1,6 @@
 pub mod Laws
 pub mod Verdicts
-pub mod Counting
+pub mod Steps
 pub mod Scan
 pub mod Answers
-pub mod Runs
+pub mod Histories

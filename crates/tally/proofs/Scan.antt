@@ -1,42 +1,42 @@
--- The loop that counts: what it has counted and what is left make the counts over the whole.
--- ┌─────────────────┬──────────────────────────────────────────────────────────────┐
--- │ Going vs ps t i │ t holds the counts over the first i places                   │
--- │ going-none      │ before the first place                                       │
--- │ going-more      │ one place more                                               │
--- │ going-done      │ past the last place                                          │
--- │ going-broken    │ at a place that no verdict or no flag stands at              │
--- └─────────────────┴──────────────────────────────────────────────────────────────┘
-use mathlib.Core.Path.{_≡_, refl, sym, ap, ap₂, _∙_}
+-- The loop that folds: the tally so far and the places that are left make the whole.
+-- ┌───────────────────┬────────────────────────────────────────────────────────────┐
+-- │ Going t vs ps u i │ u is the tally t with the first i places added             │
+-- │ going-none        │ before the first place                                     │
+-- │ going-more        │ one place more                                             │
+-- │ going-done        │ past the last place                                        │
+-- │ going-broken      │ at a place that no verdict or no flag stands at            │
+-- └───────────────────┴────────────────────────────────────────────────────────────┘
+use mathlib.Core.Path.{_≡_, refl, sym, ap, ap₂, _∙_, subst}
 use mathlib.Core.Bool.{Bool, true, false, _&&_}
 use mathlib.Core.List.{List, [], _∷_}
-use Prim.Native.Nat.{ℕ, _+_, _≤_, _<_}
+use Prim.Native.Nat.{ℕ, suc, _+_, _-_, _≤_, _<_}
+use native.Mathlib.Nat.{sub-zero}
 use native.Mathlib.Numerals.{add-one}
 use native.Mathlib.Omega.{arith}
-use lib.Dec.{eqb}
 use lib.ListN.{length, getD, drop}
 use lib.Seq.{drop-cons, drop-length}
-use Rattle.tally.specs.Ranges.{accepted, isVerdict, isFlag, every, lawful, framesIn}
-use Rattle.tally.specs.Counts.{wrongPads, fresh, counts, after}
-use Rattle.tally.specs.declared.Tally.{Tally}
 use Rattle.laws.proofs.Truth.{two}
-use Rattle.tally.proofs.Laws.{four-and, at-most-one}
-use Rattle.tally.proofs.Counting.{after-none, wrong-one-place, in-pieces, from-fresh, counts-each}
+use Rattle.tally.specs.Ranges.{isVerdict, isFlag, every, known}
+use Rattle.tally.specs.Fold.{step, after}
+use Rattle.tally.specs.Parts.{Fits}
+use Rattle.tally.specs.declared.Tally.{Tally}
+use Rattle.tally.proofs.Laws.{four-and}
+use Rattle.tally.proofs.Steps.{step-fits}
 
-pub record Going (vs ps : List ℕ) (t : Tally) (i : ℕ) : Type 0 where
+pub record Going (t : Tally) (vs ps : List ℕ) (u : Tally) (i : ℕ) : Type 0 where
   pub here : i ≤ length vs
-  pub left : after t (drop i vs) (drop i ps) ≡ counts vs ps
-  pub tests : lawful (drop i vs) (drop i ps) ≡ lawful vs ps
-  pub frames : framesIn t ≡ i
-  pub pads : t .«pad_wrong» ≤ i
+  pub left : after u (drop i vs) (drop i ps) ≡ after t vs ps
+  pub tests : known (drop i vs) (drop i ps) ≡ known vs ps
+  pub fits : Fits u (length vs - i)
 
-pub going-none : (vs ps : List ℕ) → Going vs ps fresh 0
-going-none vs ps = record { here = omega arith; left = from-fresh vs ps; tests = refl; frames = refl; pads = omega arith }
+pub going-none : (t : Tally) (vs ps : List ℕ) → Fits t (length vs) → Going t vs ps t 0
+going-none t vs ps f = record { here = omega arith; left = refl; tests = refl; fits = rw sub-zero f }
 
-lawful-cons : (v p : ℕ) (vs ps : List ℕ) → lawful (v ∷ vs) (p ∷ ps) ≡ isVerdict v && isFlag p && lawful vs ps
+known-cons : (v p : ℕ) (vs ps : List ℕ) → known (v ∷ vs) (p ∷ ps) ≡ isVerdict v && isFlag p && known vs ps
 unfolding every
-lawful-cons v p vs ps = four-and (isVerdict v) (every isVerdict vs) (isFlag p) (every isFlag ps)
+known-cons v p vs ps = four-and (isVerdict v) (every isVerdict vs) (isFlag p) (every isFlag ps)
 
-module _ (vs ps : List ℕ) (t : Tally) (i : ℕ) (g : Going vs ps t i) (e : length vs ≡ length ps) where
+module _ (t : Tally) (vs ps : List ℕ) (u : Tally) (i : ℕ) (g : Going t vs ps u i) (e : length vs ≡ length ps) where
   module _ (h : i < length vs) where
     abbrev verdict : ℕ
     verdict = getD vs i 0
@@ -50,33 +50,27 @@ module _ (vs ps : List ℕ) (t : Tally) (i : ℕ) (g : Going vs ps t i) (e : len
     flags : i < length ps
     flags = omega arith
 
-    split : lawful vs ps ≡ isVerdict verdict && isFlag flag && lawful (drop (i + 1) vs) (drop (i + 1) ps)
-    split = sym (g .tests) ∙ ap₂ lawful (rest vs h) (rest ps flags) ∙ lawful-cons verdict flag (drop (i + 1) vs) (drop (i + 1) ps)
+    split : known vs ps ≡ isVerdict verdict && isFlag flag && known (drop (i + 1) vs) (drop (i + 1) ps)
+    split = sym (g .tests) ∙ ap₂ known (rest vs h) (rest ps flags) ∙ known-cons verdict flag (drop (i + 1) vs) (drop (i + 1) ps)
 
-    pub going-broken : isVerdict verdict && isFlag flag ≡ false → lawful vs ps ≡ false
-    going-broken k = split ∙ ap (λ (b : Bool). b && lawful (drop (i + 1) vs) (drop (i + 1) ps)) k
+    pub going-broken : isVerdict verdict && isFlag flag ≡ false → known vs ps ≡ false
+    going-broken k = split ∙ ap (λ (b : Bool). b && known (drop (i + 1) vs) (drop (i + 1) ps)) k
 
-    pub going-more : isVerdict verdict && isFlag flag ≡ true → Going vs ps (after t (verdict ∷ []) (flag ∷ [])) (i + 1)
-    unfolding every
+    pub going-more : isVerdict verdict && isFlag flag ≡ true → Going t vs ps (step u verdict flag) (i + 1)
+    unfolding after
     going-more k =
-        let a = two (isVerdict verdict) (isFlag flag) k in
+        let n : length vs - i ≡ suc (length vs - (i + 1)) = omega arith in
         record {
           here = omega arith;
-          left = sym (in-pieces t (verdict ∷ []) (flag ∷ []) (drop (i + 1) vs) (drop (i + 1) ps) refl)
-              ∙ ap₂ (after t) (sym (rest vs h)) (sym (rest ps flags))
-              ∙ g .left;
-          tests = sym (split ∙ ap (λ (b : Bool). b && lawful (drop (i + 1) vs) (drop (i + 1) ps)) k);
-          frames = omega (arith, counts-each t (verdict ∷ []) (flag ∷ []) (ap (λ (b : Bool). b && true) (a .0)), g .frames);
-          pads = omega (arith, wrong-most verdict flag, g .pads);
+          left = sym (ap₂ (after u) (rest vs h) (rest ps flags)) ∙ g .left;
+          tests = sym (split ∙ ap (λ (b : Bool). b && known (drop (i + 1) vs) (drop (i + 1) ps)) k);
+          fits = step-fits u verdict flag (length vs - (i + 1)) (two (isVerdict verdict) (isFlag flag) k .0) (subst (Fits u) n (g .fits));
         }
-      where
-        wrong-most : (v p : ℕ) → wrongPads (v ∷ []) (p ∷ []) ≤ 1
-        wrong-most v p = omega (arith, wrong-one-place v p, at-most-one (accepted v && eqb p 1))
 
-  pub going-done : length vs ≤ i → (t ≡ counts vs ps) × (lawful vs ps ≡ true)
-  unfolding every
+  pub going-done : length vs ≤ i → (u ≡ after t vs ps) × (known vs ps ≡ true)
+  unfolding after every
   going-done h =
       let a : i ≡ length vs = omega (arith, g .here) in
       let v : drop i vs ≡ [] = rw (a, drop-length) in
       let p : drop i ps ≡ [] = rw (a ∙ e, drop-length) in
-      (sym (ap₂ (after t) v p ∙ after-none t) ∙ g .left, sym (g .tests) ∙ ap₂ lawful v p)
+      (sym (ap₂ (after u) v p) ∙ g .left, sym (g .tests) ∙ ap₂ known v p)

@@ -1,4 +1,7 @@
 pub mod Ranges
 pub mod Counts
-pub mod Adds
+pub mod Fold
+pub mod Answers
+pub mod Calls
+pub mod Parts
 pub mod Claims

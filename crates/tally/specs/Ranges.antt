@@ -4,7 +4,7 @@
 -- │ isVerdict v    │ v is a verdict byte                                            │
 -- │ isFlag p       │ p is a pad flag: 1 for wrong                                   │
 -- │ every f l      │ each number of the list l passes the test f                    │
--- │ lawful vs ps   │ verdict bytes and pad flags                                    │
+-- │ known vs ps    │ verdict bytes and pad flags                                    │
 -- │ acceptedIn t   │ the accepted frames of a tally                                 │
 -- │ framesIn t     │ all its frames: the sum of the five verdict counts             │
 -- │ inRange t      │ the state t is in its range                                    │
@@ -29,8 +29,8 @@ unfoldable pub every : (ℕ → Bool) → List ℕ → Bool
 every f [] = true
 every f (x ∷ xs) = f x && every f xs
 
-abbrev pub lawful : List ℕ → List ℕ → Bool
-lawful vs ps = every isVerdict vs && every isFlag ps
+abbrev pub known : List ℕ → List ℕ → Bool
+known vs ps = every isVerdict vs && every isFlag ps
 
 abbrev pub acceptedIn : Tally → ℕ
 acceptedIn t = t .clean + t .one + t .two

@@ -2,11 +2,11 @@
 ghost use mathlib.Core.Path.{_≡_};
 ghost use mathlib.Core.List.{[], _∷_};
 ghost use Rattle.tally.specs.Counts.{fresh};
-ghost use Rattle.tally.specs.Adds.{numberOf, Adds};
+ghost use Rattle.tally.specs.Answers.{answer, howMany};
+ghost use Rattle.tally.specs.Calls.{Adds, Sums};
 
-mod count;
-
-use count::Counted;
+mod fold;
+mod range;
 
 // How many frames were clean, had one or two flips, were 13 or 14; and of the accepted ones, how many had a wrong pad.
 pub struct Tally {
@@ -21,21 +21,13 @@ pub struct Tally {
 // The next tally, or 12, 11, 20. Only the first holds a state: after a refusal the caller still has the one it passed.
 pub enum Added {
     Next(Tally),
-    Unequal,
-    OutOfRange,
-    Full,
+    Refused(u8),
 }
 
-// The number of an answer: 0 where it is the next tally.
-pub fn number_of(a: Added) -> u8
-    ensures { λ n. ⌜ n ≡ numberOf a ⌝ }
-{
-    match a {
-        Added::Next(_) => 0,
-        Added::Unequal => paper::UNFIT,
-        Added::OutOfRange => paper::OUTSIDE,
-        Added::Full => paper::PAST_COUNT,
-    }
+// The frames that a tally has counted, or 11.
+pub enum HowMany {
+    Frames(u64),
+    Refused(u8),
 }
 
 impl Tally {
@@ -54,7 +46,7 @@ impl Tally {
 
     // One verdict and its flag: lists of one.
     pub fn add(self, verdict: u8, pad: u8) -> Added
-        ensures { λ r. ⌜ Adds self (verdict ∷ []) (pad ∷ []) r ⌝ }
+        ensures { λ r. ⌜ Adds self (verdict ∷ []) (pad ∷ []) (answer r) ⌝ }
     {
         let verdicts = [verdict];
         let pads = [pad];
@@ -63,20 +55,27 @@ impl Tally {
 
     // 12: lists of unfit lengths; 11: no verdict, no flag, or a state out of its range; 20: more than 2^53 - 1 frames.
     pub fn add_list(self, verdicts: &[u8], pads: &[u8]) -> Added
-        ensures { λ r. ⌜ Adds self (now (verdicts .entry)) (now (pads .entry)) r ⌝ }
+        ensures { λ r. ⌜ Adds self (now (verdicts .entry)) (now (pads .entry)) (answer r) ⌝ }
     {
         if verdicts.len() != pads.len() {
-            return Added::Unequal;
+            return Added::Refused(paper::UNFIT);
         }
-        if !count::in_range(self) {
-            return Added::OutOfRange;
+        if !range::in_range(self) {
+            return Added::Refused(paper::OUTSIDE);
         }
-        let Counted::Counts(new) = count::count(verdicts, pads) else {
-            return Added::OutOfRange;
-        };
-        if !count::has_room(self, verdicts.len() as u64) {
-            return Added::Full;
+        if !range::has_room(self, verdicts.len() as u64) {
+            return fold::past(verdicts, pads);
         }
-        Added::Next(count::sum(self, new))
+        fold::folded(self, verdicts, pads)
+    }
+
+    // How many frames it has counted; 11: a state out of its range.
+    pub fn frames(self) -> HowMany
+        ensures { λ r. ⌜ Sums self (howMany r) ⌝ }
+    {
+        if !range::in_range(self) {
+            return HowMany::Refused(paper::OUTSIDE);
+        }
+        HowMany::Frames(range::frames_in(self))
     }
 }

@@ -1,5 +1,5 @@
 -- `octets::place::get` meets its contract.
-use mathlib.Core.Path.{_≡_, sym, ap, ap₂, _∙_}
+use mathlib.Core.Path.{_≡_, sym, ap₂, _∙_}
 use mathlib.Core.Bool.{Bool, true}
 use Prim.Native.Nat.{ℕ}
 use borrow.Author.Needs.{needs}
@@ -7,7 +7,6 @@ use borrow.Author.Tests.{not-true, not-false}
 use lib.ListN.{length}
 use Rattle.paper.specs.Numbers.{unfit, unless}
 use Rattle.paper.specs.Answer.{owed}
-use Rattle.octets.specs.Octets.{joined}
 use Rattle.octets.specs.Calls.{there}
 use Rattle.octets.proofs.Placed.{is-there}
 use Rattle.octets.proofs.place.get.Statement.{statement}

@@ -1,8 +1,8 @@
 -- Each return rewrites with the test that led there.
 use native.Mathlib.Omega.{arith}
 use borrow.Author.Tests.{eq-eqb, ne-eqb}
-use Rattle.tally.proofs.count.same.Statement.{statement}
-use Rattle.tally.proofs.count.same.Tie as tie
+use Rattle.tally.proofs.fold.same.Statement.{statement}
+use Rattle.tally.proofs.fold.same.Tie as tie
 
 returns : tie.Need-returns
 returns c = (simp (eq-eqb _ _ (c .if1 .taken)), omega arith)

@@ -4,8 +4,8 @@ use mathlib.Core.Bool.{Bool, true, false, _&&_, _||_, and-true, and-false}
 use Rattle.tally.specs.Ranges.{isVerdict}
 use borrow.Author.Tests.{eq-eqb, ne-eqb}
 use Rattle.tally.proofs.Verdicts.{is-accepted, not-accepted, is-flag, not-flag}
-use Rattle.tally.proofs.count.known.Statement.{statement}
-use Rattle.tally.proofs.count.known.Tie as tie
+use Rattle.tally.proofs.fold.known.Statement.{statement}
+use Rattle.tally.proofs.fold.known.Tie as tie
 
 returns : tie.Need-returns
 returns c = rw (not-flag (c .before .args .pad) (c .if1 .taken)) (sym (and-false (isVerdict (c .before .args .verdict))))

@@ -9,8 +9,8 @@ use lib.Dec.{leb}
 use Rattle.paper.specs.Numbers.{mostCounted}
 use Rattle.tally.specs.Ranges.{acceptedIn, framesIn, inRange}
 use Rattle.tally.specs.declared.Tally.{Tally}
-use Rattle.tally.proofs.count.in_range.Statement.{statement}
-use Rattle.tally.proofs.count.in_range.Tie as tie
+use Rattle.tally.proofs.range.in_range.Statement.{statement}
+use Rattle.tally.proofs.range.in_range.Tie as tie
 
 past : (t : Tally) → mostCounted < framesIn t → false ≡ inRange t
 past t h = simp (lt-leb (framesIn t) mostCounted h)

@@ -73,11 +73,11 @@ fn whole(i: Input) -> bool {
 // One case, answered; whether there may be another.
 fn turn(buffer: &mut [u8]) -> bool {
     let mut head = [0u8; 96];
-    if !whole(input::fill(&mut head)) {
+    if !whole(input::load(&mut head)) {
         return false;
     }
     let k = fields::within(&head, 3, buffer);
-    input::fill(&mut buffer[..k]);
+    input::load(&mut buffer[..k]);
     let n = fields::within(&head, 4, buffer);
     lent(&head, &mut buffer[..n]);
     io::write_all(STDOUT_FILENO, b"\n");

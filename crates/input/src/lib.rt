@@ -42,7 +42,7 @@ fn after_read(got: isize, n: usize, have: usize, size: usize) -> Step
 }
 
 // Reads until the buffer is full or the input ends. A read may hand over any number of bytes.
-pub fn fill(buffer: &mut [u8]) -> Input
+pub fn load(buffer: &mut [u8]) -> Input
     ensures { λ r. ⌜ Fits r (now (buffer .exit)) ⌝ }
 {
     let mut have = 0;

@@ -44,7 +44,7 @@ fn turned(t: Tally, buffer: &[u8], i: Input) -> State
 // One buffer of input, counted on.
 fn one_turn(t: Tally) -> State {
     let mut buffer = io::large_buffer();
-    let i = input::fill(&mut buffer);
+    let i = input::load(&mut buffer);
     turned(t, &buffer, i)
 }
 

@@ -18,19 +18,19 @@ use lib.Seq.{drop-cons, drop-length}
 use Rattle.laws.proofs.Truth.{two}
 use Rattle.tally.specs.Ranges.{isVerdict, isFlag, every, known}
 use Rattle.tally.specs.Fold.{step, after}
-use Rattle.tally.specs.Parts.{Fits}
+use Rattle.tally.specs.Parts.{Spare}
 use Rattle.tally.specs.declared.Tally.{Tally}
 use Rattle.tally.proofs.Laws.{four-and}
-use Rattle.tally.proofs.Steps.{step-fits}
+use Rattle.tally.proofs.Steps.{step-spare}
 
 pub record Going (t : Tally) (vs ps : List ℕ) (u : Tally) (i : ℕ) : Type 0 where
   pub here : i ≤ length vs
   pub left : after u (drop i vs) (drop i ps) ≡ after t vs ps
   pub tests : known (drop i vs) (drop i ps) ≡ known vs ps
-  pub fits : Fits u (length vs - i)
+  pub spare : Spare u (length vs - i)
 
-pub going-none : (t : Tally) (vs ps : List ℕ) → Fits t (length vs) → Going t vs ps t 0
-going-none t vs ps f = record { here = omega arith; left = refl; tests = refl; fits = rw sub-zero f }
+pub going-none : (t : Tally) (vs ps : List ℕ) → Spare t (length vs) → Going t vs ps t 0
+going-none t vs ps f = record { here = omega arith; left = refl; tests = refl; spare = rw sub-zero f }
 
 known-cons : (v p : ℕ) (vs ps : List ℕ) → known (v ∷ vs) (p ∷ ps) ≡ isVerdict v && isFlag p && known vs ps
 unfolding every
@@ -64,7 +64,7 @@ module _ (t : Tally) (vs ps : List ℕ) (u : Tally) (i : ℕ) (g : Going t vs ps
           here = omega arith;
           left = sym (ap₂ (after u) (rest vs h) (rest ps flags)) ∙ g .left;
           tests = sym (split ∙ ap (λ (b : Bool). b && known (drop (i + 1) vs) (drop (i + 1) ps)) k);
-          fits = step-fits u verdict flag (length vs - (i + 1)) (two (isVerdict verdict) (isFlag flag) k .0) (subst (Fits u) n (g .fits));
+          spare = step-spare u verdict flag (length vs - (i + 1)) (two (isVerdict verdict) (isFlag flag) k .0) (subst (Spare u) n (g .spare));
         }
 
   pub going-done : length vs ≤ i → (u ≡ after t vs ps) × (known vs ps ≡ true)

@@ -5,7 +5,7 @@
 -- │ summed g vs ps  │ g of each verdict and its flag, summed                       │
 -- │ total           │ a number to which each step adds g grows by their sum        │
 -- │ step-frames     │ a verdict is one frame                                       │
--- │ step-fits       │ and keeps the room for those that follow                     │
+-- │ step-spare      │ and keeps the room for those that follow                     │
 -- │ pads-few        │ only accepted frames have a wrong pad                        │
 -- │ in-pieces …     │ the statements of specs/Claims.antt by these names           │
 -- └─────────────────┴──────────────────────────────────────────────────────────────┘
@@ -20,7 +20,7 @@ use Rattle.laws.proofs.Truth.{two}
 use Rattle.tally.specs.Ranges.{accepted, isVerdict, every, acceptedIn, framesIn}
 use Rattle.tally.specs.Counts.{often, wrongPads, fresh}
 use Rattle.tally.specs.Fold.{once, step, after}
-use Rattle.tally.specs.Parts.{Fits}
+use Rattle.tally.specs.Parts.{Spare}
 use Rattle.tally.specs.Claims.{InPieces, FromFresh, CountsEach}
 use Rattle.tally.specs.declared.Tally.{Tally}
 use Rattle.tally.proofs.Laws.{at-most-one}
@@ -97,9 +97,9 @@ pub step-frames : (t : Tally) (v p : ℕ) → isVerdict v ≡ true → framesIn 
 unfolding step
 step-frames t v p e = omega (arith, five v e)
 
-pub step-fits : (t : Tally) (v p n : ℕ) → isVerdict v ≡ true → Fits t (suc n) → Fits (step t v p) n
+pub step-spare : (t : Tally) (v p n : ℕ) → isVerdict v ≡ true → Spare t (suc n) → Spare (step t v p) n
 unfolding step
-step-fits t v p n e f =
+step-spare t v p n e f =
     record {
       frames = omega (arith, step-frames t v p e, f .frames);
       pads = omega (arith, at-most-one (accepted v && eqb p 1), f .pads);

@@ -1,6 +1,6 @@
 -- What only private functions cite.
 -- ┌─────────────────┬───────────────────────────────────────────────────────────────┐
--- │ Fits t n        │ n more places keep every number of t below 2^64               │
+-- │ Spare t n       │ n more places keep every number of t below 2^64               │
 -- │ Folds t vs ps a │ a is t with the lists added, or 11 where they hold another    │
 -- │                 │ number than a verdict or a flag                               │
 -- │ Past vs ps a    │ a is that 11, or 20                                           │
@@ -15,7 +15,7 @@ use Rattle.tally.specs.Ranges.{known, framesIn}
 use Rattle.tally.specs.Fold.{after}
 use Rattle.tally.specs.declared.Tally.{Tally}
 
-pub record Fits (t : Tally) (n : ℕ) : Type 0 where
+pub record Spare (t : Tally) (n : ℕ) : Type 0 where
   pub frames : framesIn t + n < 2 ^ 64
   pub pads : t .«pad_wrong» + n < 2 ^ 64
 

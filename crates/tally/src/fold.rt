@@ -7,7 +7,7 @@ ghost use lib.ListN.{length};
 ghost use Rattle.tally.specs.Ranges.{accepted, isVerdict, isFlag};
 ghost use Rattle.tally.specs.Fold.{once, step};
 ghost use Rattle.tally.specs.Answers.{answer};
-ghost use Rattle.tally.specs.Parts.{Fits, Folds, Past};
+ghost use Rattle.tally.specs.Parts.{Spare, Folds, Past};
 use crate::Added;
 use crate::Tally;
 use paper::NO_WORD;
@@ -44,7 +44,7 @@ fn wrong(verdict: u8, pad: u8) -> u64
 }
 
 fn step(t: Tally, verdict: u8, pad: u8) -> Tally
-    requires { ⌜ Fits t 1 × (isFlag pad ≡ true) ⌝ }
+    requires { ⌜ Spare t 1 × (isFlag pad ≡ true) ⌝ }
     ensures { λ r. ⌜ r ≡ step t verdict pad ⌝ }
 {
     let pad_wrong = t.pad_wrong + wrong(verdict, pad);
@@ -71,7 +71,7 @@ fn step(t: Tally, verdict: u8, pad: u8) -> Tally
 
 // The tally with lists of equal lengths added, or 11 where they hold another number than a verdict or a flag.
 pub(crate) fn folded(t: Tally, verdicts: &[u8], pads: &[u8]) -> Added
-    requires { ⌜ (length (now verdicts) ≡ length (now pads)) × Fits t (length (now verdicts)) ⌝ }
+    requires { ⌜ (length (now verdicts) ≡ length (now pads)) × Spare t (length (now verdicts)) ⌝ }
     ensures { λ r. ⌜ Folds t (now (verdicts .entry)) (now (pads .entry)) (answer r) ⌝ }
 {
     let mut u = t;

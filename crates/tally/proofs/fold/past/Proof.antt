@@ -4,7 +4,7 @@ use native.Mathlib.Omega.{arith}
 use borrow.Author.Needs.{needs}
 use lib.ListN.{length}
 use Rattle.tally.specs.Answers.{answer}
-use Rattle.tally.specs.Parts.{Fits, Folds}
+use Rattle.tally.specs.Parts.{Spare, Folds}
 use Rattle.tally.specs.declared.Tally.{Tally}
 use Rattle.tally.proofs.Answers.{past-told, past-new}
 use Rattle.tally.proofs.fold.past.Statement.{statement}
@@ -16,7 +16,7 @@ fresh-requires c κs = search needs
 folded-requires : tie.Need-folded-requires
 folded-requires c κs =
     let s = c .before .before .before in
-    (s .pre, subst (λ (t : Tally). Fits t (length (s .args .verdicts .now))) (sym (c .fresh .ensures)) (record { frames = omega arith; pads = omega arith }))
+    (s .pre, subst (λ (t : Tally). Spare t (length (s .args .verdicts .now))) (sym (c .fresh .ensures)) (record { frames = omega arith; pads = omega arith }))
 
 enum-told : tie.Need-enum-told
 enum-told c = search needs

@@ -1,4 +1,4 @@
--- `fill` is safe and ends, and the bytes it says are in the buffer.
+-- `load` is safe and ends, and the bytes it says are in the buffer.
 use mathlib.Core.Path.{_≡_, refl, sym, ap, subst, _∙_}
 use mathlib.Core.List.{List}
 use Prim.Native.Nat.{ℕ, _≤_, _-_}
@@ -10,8 +10,8 @@ use Rattle.input.specs.declared.Input.{Input}
 use Rattle.input.specs.declared.Input.the-variants.{Full, Last, Failed}
 use Rattle.input.specs.declared.Step.the-variants.{Over}
 use Rattle.input.proofs.Stepped.{more, last}
-use Rattle.input.proofs.fill.Statement.{statement}
-use Rattle.input.proofs.fill.Tie as tie
+use Rattle.input.proofs.load.Statement.{statement}
+use Rattle.input.proofs.load.Tie as tie
 
 -- an answer that counts no more than the bytes that were there
 fits : (i : Input) (have : ℕ) (bs : List ℕ) → ((k : ℕ) → i ≡ Last k → have ≡ k) → have ≤ length bs → Fits i bs
@@ -89,8 +89,8 @@ same-length-2 c = search needs
 returns-2 : tie.Need-returns-2 Inv-loop μ-loop
 returns-2 c = search needs
 
-pub fill-spec : {M : Type 1} → statement M
-fill-spec =
+pub load-spec : {M : Type 1} → statement M
+load-spec =
     tie.close
     (tie.spec
     Inv-loop

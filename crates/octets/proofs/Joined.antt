@@ -7,18 +7,16 @@
 -- │ numbers-len   │ how many they are                                              │
 -- │ numbers-join  │ the numbers of joined bytes, where the first part is whole     │
 -- │ numbers-lt    │ the numbers of bytes have 64 bits                              │
--- │ one-taken     │ no second answer or list meets the contract of `numbers`       │
 -- └───────────────┴────────────────────────────────────────────────────────────────┘
 use mathlib.Core.Path.{_≡_, refl, sym, ap, ap₂, _∙_, subst}
 use mathlib.Core.List.{List, _∷_, _++_}
 use Prim.Native.Nat.{ℕ, zero, suc, _+_, _*_, _/_, _%_, _^_, _<_, _≤_}
 use native.Mathlib.Nat.{add-zero, not-suc-le-zero, le-of-suc-le-suc, suc-mul, zero-add, suc-add, add-assoc}
 use native.Mathlib.Omega.{arith}
-use lib.ListN.{length, getD, take, drop, length-append, List·getD-append}
+use lib.ListN.{length, getD, length-append, List·getD-append}
 use lib.Seq.{getD-append-add}
 use Rattle.laws.specs.Bits.{Octets}
 use Rattle.octets.specs.Octets.{joined, numbers, numbersOf}
-use Rattle.octets.specs.Claims.{OneTaken}
 use Rattle.octets.proofs.Digits.{joined-lt}
 
 pub joined-eight : (bs : List ℕ) (at : ℕ)
@@ -95,8 +93,3 @@ pub numbers-lt : (bs : List ℕ) → Octets bs → (i : ℕ) → i < length (num
 numbers-lt bs h i l =
     let k : i < length bs / 8 = subst (λ (n : ℕ). i < n) (numbers-len (length bs / 8) bs 0) l in
     subst (λ (x : ℕ). x < 2 ^ 64) (sym (numbers-at (length bs / 8) bs 0 i k)) (joined-lt 8 bs (0 + i * 8) h)
-
-pub one-taken : OneTaken
-one-taken bs o₀ m n o p s t =
-    let e : m ≡ n = s .count ∙ sym (t .count) in
-    (e, s .front ∙ ap (λ (k : ℕ). take k (numbersOf bs) ++ drop k o₀) e ∙ sym (t .front))

@@ -8,7 +8,6 @@
 -- │ OthersStay   │ a put keeps the length, and every byte before and past its own │
 -- │ OneGot       │ no second answer meets the contract of `get`                   │
 -- │ OnePut       │ no second answer or list meets the contract of `put`           │
--- │ OneTaken     │ no second answer or list meets the contract of `numbers`       │
 -- └──────────────┴────────────────────────────────────────────────────────────────┘
 use mathlib.Core.Path.{_≡_}
 use mathlib.Core.List.{List, [], _∷_}
@@ -18,7 +17,7 @@ use lib.ListN.{length, getD}
 use Rattle.paper.specs.Answer.{gives, done, listed}
 use Rattle.paper.specs.declared.Listed.{Listed}
 use Rattle.laws.specs.Bits.{Octets}
-use Rattle.octets.specs.Octets.{numbersOf, bytesOf, Taken}
+use Rattle.octets.specs.Octets.{numbersOf, bytesOf}
 use Rattle.octets.specs.Answers.{answer}
 use Rattle.octets.specs.Calls.{Gets, Puts}
 use Rattle.octets.specs.declared.place.Got.{Got}
@@ -50,6 +49,3 @@ abbrev pub OnePut : Type 0
 OnePut =
     (o₀ o p : List ℕ) (at n x : ℕ) (r s : Listed) → Puts o₀ at n x (listed r) o → Puts o₀ at n x (listed s) p
     → (r ≡ s) × (o ≡ p)
-
-abbrev pub OneTaken : Type 0
-OneTaken = (bs o₀ : List ℕ) (m n : ℕ) (o p : List ℕ) → Taken bs o₀ m o → Taken bs o₀ n p → (m ≡ n) × (o ≡ p)

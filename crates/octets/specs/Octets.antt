@@ -3,8 +3,6 @@
 -- │ joined n bs at    │ the number of the n bytes of bs from place at on           │
 -- │ numbers n bs at   │ n numbers of eight bytes each, from place at on            │
 -- │ numbersOf bs      │ the numbers of the whole eights of bs                      │
--- │ Taken bs o₀ n o   │ n numbers of bs, as many as there are and o₀ has room for, │
--- │                   │ stand at the front of o; past them it is as o₀ was         │
 -- │ inBytes n x       │ the n lowest bytes of x, highest first                     │
 -- │ eight x           │ the eight bytes of x                                       │
 -- │ bytesOf xs        │ the bytes of a list of numbers                             │
@@ -12,10 +10,9 @@
 -- │ stored o i x      │ o with x at its eight number i; as it was where o has no   │
 -- │                   │ such eight                                                 │
 -- └───────────────────┴────────────────────────────────────────────────────────────┘
-use mathlib.Core.Path.{_≡_}
 use mathlib.Core.List.{List, [], _∷_, _++_}
 use mathlib.Core.Bool.{Bool, cond, not}
-use Prim.Native.Nat.{ℕ, zero, suc, min, _+_, _*_, _/_, _%_, _^_}
+use Prim.Native.Nat.{ℕ, zero, suc, _+_, _*_, _/_, _%_, _^_}
 use lib.Dec.{ltb, eqb}
 use lib.ListN.{length, getD, take, drop}
 
@@ -29,10 +26,6 @@ numbers (suc n) bs at = joined 8 bs at ∷ numbers n bs (at + 8)
 
 abbrev pub numbersOf : List ℕ → List ℕ
 numbersOf bs = numbers (length bs / 8) bs 0
-
-pub record Taken (bs o₀ : List ℕ) (n : ℕ) (o : List ℕ) : Type 0 where
-  pub count : n ≡ min (length bs / 8) (length o₀)
-  pub front : o ≡ take n (numbersOf bs) ++ drop n o₀
 
 unfoldable pub inBytes : ℕ → ℕ → List ℕ
 inBytes zero x = []

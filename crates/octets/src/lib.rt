@@ -1,8 +1,8 @@
 // Bytes and numbers, highest byte first: 64-bit numbers, eight bytes each, and a number of any width at any place.
 ghost use mathlib.Core.Path.{_≡_};
-ghost use Prim.Native.Nat.{min, _+_, _*_, _≤_, _<_, _^_};
+ghost use Prim.Native.Nat.{_+_, _*_, _≤_, _<_, _^_};
 ghost use lib.ListN.{length, getD};
-ghost use Rattle.octets.specs.Octets.{joined, numbersOf, eight, stored, Taken};
+ghost use Rattle.octets.specs.Octets.{joined, numbersOf, eight, stored};
 
 mod place;
 
@@ -23,25 +23,6 @@ fn number_at(b: &[u8], at: usize) -> u64
 {
     four(b[at], b[at + 1], b[at + 2], b[at + 3]) * 0x1_0000_0000
         + four(b[at + 4], b[at + 5], b[at + 6], b[at + 7])
-}
-
-fn least(a: usize, b: usize) -> usize
-    ensures { λ r. ⌜ r ≡ min a b ⌝ }
-{
-    if a < b { a } else { b }
-}
-
-// The numbers of the whole eights of `bytes`, as many as `out` has room for, at its front; answers how many.
-pub fn numbers(bytes: &[u8], out: &mut [u64]) -> usize
-    ensures { λ n. ⌜ Taken (now (bytes .entry)) (now (out .entry)) n (now (out .exit)) ⌝ }
-{
-    let n = least(bytes.len() / 8, out.len());
-    let mut i = 0;
-    while i < n {
-        out[i] = number_at(bytes, i * 8);
-        i += 1;
-    }
-    n
 }
 
 // Number i of the whole eights of `bytes`, 0 where there is none.

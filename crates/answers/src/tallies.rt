@@ -31,21 +31,19 @@ fn added(t: Tally, verdicts: &[u8], pads: &[u8]) -> Added {
 }
 
 pub(crate) fn add(head: &[u8], verdicts: &[u8], pads: &[u8]) {
-    let r = added(handed_in(head), verdicts, pads);
-    if let Added::Next(t) = r {
-        tallied(t);
-    } else {
-        say::refused(tally::number_of(r));
+    match added(handed_in(head), verdicts, pads) {
+        Added::Next(t) => tallied(t),
+        Added::Refused(n) => say::refused(n),
     }
 }
 
 pub(crate) fn count(head: &[u8], piece: &[u8]) {
-    let r = lane::count(handed_in(head), piece);
-    if let Counted::Next(u) = r {
-        tallied(u.tally);
-        say::number(u.frames);
-        say::number(u.left);
-    } else {
-        say::refused(lane::number_of(r));
+    match lane::count(handed_in(head), piece) {
+        Counted::Next(u) => {
+            tallied(u.tally);
+            say::number(u.frames);
+            say::number(u.left);
+        }
+        Counted::Refused(n) => say::refused(n),
     }
 }

@@ -3,7 +3,7 @@
 -- │ more      │ bytes came, and there is room after them                            │
 -- │ last      │ the input ended with what was there                                 │
 -- └───────────┴─────────────────────────────────────────────────────────────────────┘
-use mathlib.Core.Path.{_≡_, refl, sym}
+use mathlib.Core.Path.{_≡_, refl}
 use mathlib.Core.Bool.{Bool, true, false, cond}
 use Prim.Native.Nat.{ℕ, _+_, _-_, _<_}
 use native.Mathlib.Omega.{arith}

@@ -4,60 +4,47 @@
 -- │ in-pieces       │                                                              │
 -- │ each-frame-once │                                                              │
 -- └─────────────────┴──────────────────────────────────────────────────────────────┘
-use mathlib.Core.Path.{_≡_, refl, sym, ap, ap₂, _∙_, subst}
-use mathlib.Core.Bool.{true}
+use mathlib.Core.Path.{_≡_, sym, ap, ap₂, _∙_, subst}
 use mathlib.Core.List.{List, _++_, append-nil}
 use mathlib.Core.Logic.{inl, inr}
-use Prim.Native.Nat.{ℕ, _+_, _/_, _%_}
+use Prim.Native.Nat.{ℕ, zero, suc, _%_}
 use native.Mathlib.Omega.{arith}
 use lib.ListN.{length, length-append}
-use Rattle.octets.proofs.Joined.{numbers-len}
-use Rattle.reader.specs.Answers.{word, refused}
-use Rattle.reader.specs.Lists.{VerdictOf}
-use Rattle.tally.specs.Ranges.{isVerdict, every}
-use Rattle.tally.specs.Counts.{fresh, after}
-use Rattle.tally.specs.Adds.{refusal}
+use Rattle.paper.specs.Numbers.{unfit}
+use Rattle.paper.specs.Answer.{gives, owed}
+use Rattle.paper.proofs.Answer.{gives-one, refused-one, never-both}
+use Rattle.laws.specs.Bits.{joining}
+use Rattle.tally.specs.Ranges.{framesIn}
+use Rattle.tally.specs.Counts.{fresh}
+use Rattle.tally.specs.Fold.{after}
+use Rattle.tally.specs.Calls.{refusal}
 use Rattle.tally.specs.declared.Tally.{Tally}
-use Rattle.tally.proofs.Verdicts.{is-accepted, every-by}
-use Rattle.tally.proofs.Counting as tally
-use Rattle.lane.specs.Counts.{Seen, numberOf, totalsOf, Counts}
-use Rattle.lane.specs.Claims.{OneCount, Pieces, last, more, joining, InPieces, EachFrameOnce}
+use Rattle.tally.proofs.Steps as tally
+use Rattle.lane.specs.Seen.{Seen}
+use Rattle.lane.specs.Answers.{answer}
+use Rattle.lane.specs.Calls.{totalsOf, CountsPiece}
+use Rattle.lane.specs.Claims.{OneCount, Pieces, last, more, InPieces, EachFrameOnce}
 use Rattle.lane.specs.declared.Totals.{Totals}
 use Rattle.lane.specs.declared.Counted.{Counted}
-use Rattle.lane.specs.declared.Counted.the-variants.{Next, TooLong, OutOfRange, Full}
-use Rattle.lane.proofs.Frames.{one-seen, seen-join}
+use Rattle.lane.specs.declared.Counted.the-variants.{Next, Refused}
+use Rattle.lane.proofs.Frames.{one-seen, as-many, all-verdicts, seen-join}
 
--- answers of one number, which hold one state
-same : (r s : Counted) → numberOf r ≡ numberOf s → ((u w : Totals) → r ≡ Next u → s ≡ Next w → u ≡ w) → r ≡ s
-same (Next u) (Next w) e n = ap Next (n u w refl refl)
-same (Next u) TooLong e n = absurd (omega arith)
-same (Next u) OutOfRange e n = absurd (omega arith)
-same (Next u) Full e n = absurd (omega arith)
-same TooLong (Next w) e n = absurd (omega arith)
-same TooLong TooLong e n = refl
-same TooLong OutOfRange e n = absurd (omega arith)
-same TooLong Full e n = absurd (omega arith)
-same OutOfRange (Next w) e n = absurd (omega arith)
-same OutOfRange TooLong e n = absurd (omega arith)
-same OutOfRange OutOfRange e n = refl
-same OutOfRange Full e n = absurd (omega arith)
-same Full (Next w) e n = absurd (omega arith)
-same Full TooLong e n = absurd (omega arith)
-same Full OutOfRange e n = absurd (omega arith)
-same Full Full e n = refl
-
-not-next : (r : Counted) (u : Totals) → numberOf r ≡ 12 → r ≡ Next u → ⊥
-not-next r u e q = let z : numberOf r ≡ 0 = ap numberOf q in omega arith
+answer-one : (r s : Counted) → answer r ≡ answer s → r ≡ s
+answer-one (Next u) (Next w) e = ap Next (gives-one u w e)
+answer-one (Next u) (Refused n) e = absurd (never-both u n e)
+answer-one (Refused n) (Next u) e = absurd (never-both u n (sym e))
+answer-one (Refused m) (Refused n) e = ap Refused (refused-one m n e)
 
 pub one-count : OneCount
-one-count t bs r s o (inl p) (inl q) = same r s (p .1 ∙ sym (q .1)) (λ u w e f. absurd (not-next r u (p .1) e))
+one-count t bs r s o (inl p) (inl q) = answer-one r s (p .1 ∙ sym (q .1))
 one-count t bs r s o (inl p) (inr q) = absurd (let a = p .0 in let b = q .0 in omega arith)
 one-count t bs r s o (inr p) (inl q) = absurd (let a = p .0 in let b = q .0 in omega arith)
 one-count t bs r s o (inr (h, p)) (inr (k, q)) =
     let e = one-seen bs (p .vs) (p .ps) (q .vs) (q .ps) o (p .seen) (q .seen) in
-    same r s (p .number ∙ ap₂ (refusal t) (e .0) (e .1) ∙ sym (q .number))
-    (λ u w f g.
-    p .next u f ∙ ap₂ (λ (vs ps : List ℕ). totalsOf (after t vs ps) (length bs % 8)) (e .0) (e .1) ∙ sym (q .next w g))
+    answer-one r s
+    (p .owes
+    ∙ ap₂ (λ (vs ps : List ℕ). owed (refusal t vs ps) (totalsOf (after t vs ps) (length bs % 8))) (e .0) (e .1)
+    ∙ sym (q .owes))
 
 -- what a counted piece comes to
 record Onward (t : Tally) (bs : List ℕ) (u : Totals) : Type 0 where
@@ -66,9 +53,13 @@ record Onward (t : Tally) (bs : List ℕ) (u : Totals) : Type 0 where
   seen : Seen bs vs ps
   counted : u ≡ totalsOf (after t vs ps) (length bs % 8)
 
-piece : (t : Tally) (bs : List ℕ) (u : Totals) → Counts t bs (Next u) → Onward t bs u
-piece t bs u (inl p) = absurd (let z = p .1 in omega arith)
-piece t bs u (inr (h, c)) = record { vs = c .vs; ps = c .ps; seen = c .seen; counted = c .next u refl }
+given : (n : ℕ) (u w : Totals) → gives u ≡ owed n w → u ≡ w
+given zero u w e = gives-one u w e
+given (suc n) u w e = absurd (never-both u (suc n) e)
+
+piece : (t : Tally) (bs : List ℕ) (u : Totals) → CountsPiece t bs (gives u) → Onward t bs u
+piece t bs u (inl p) = absurd (never-both u unfit (p .1))
+piece t bs u (inr (h, c)) = record { vs = c .vs; ps = c .ps; seen = c .seen; counted = given (refusal t (c .vs) (c .ps)) u _ (c .owes) }
 
 left : (a b : List ℕ) → length a % 8 ≡ 0 → length b % 8 ≡ length (a ++ b) % 8
 left a b h = omega (arith, length-append a b)
@@ -81,6 +72,7 @@ onward {t} (more {u = u} {w = w} {bs = bs} {bss = bss} h c p) = join (piece t bs
     join : Onward t bs u → Onward (u .tally) (joining bss) w → Onward t (bs ++ joining bss) w
     join a b =
         let e : after t (a .vs) (a .ps) ≡ u .tally = sym (ap (λ (x : Totals). x .tally) (a .counted)) in
+        let n = as-many (a .seen) in
         record {
           vs = a .vs ++ b .vs;
           ps = a .ps ++ b .ps;
@@ -88,7 +80,7 @@ onward {t} (more {u = u} {w = w} {bs = bs} {bss = bss} h c p) = join (piece t bs
           counted = b .counted
               ∙ ap₂ totalsOf
               (ap (λ (x : Tally). after x (b .vs) (b .ps)) (sym e)
-              ∙ sym (tally.in-pieces t (a .vs) (a .ps) (b .vs) (b .ps) (a .seen .as-many-verdicts ∙ sym (a .seen .as-many-flags))))
+              ∙ sym (tally.in-pieces t (a .vs) (a .ps) (b .vs) (b .ps) (n .0 ∙ sym (n .1))))
               (left bs (joining bss) h);
         }
 
@@ -102,14 +94,9 @@ in-pieces bss u p =
       counted = o .counted ∙ ap (λ (x : Tally). totalsOf x (length (joining bss) % 8)) (tally.from-fresh (o .vs) (o .ps));
     }
 
-is-verdict : (f x : ℕ) → VerdictOf f x → isVerdict x ≡ true
-is-verdict f x (word d ps pad, r, e) = simp (e, is-accepted (length ps) (r .few))
-is-verdict f x (refused n, inl (h, r), e) = simp (e, h)
-is-verdict f x (refused n, inr (h, r), e) = simp (e, h)
-
 pub each-frame-once : EachFrameOnce
 each-frame-once bs u t =
-    let known : every isVerdict (t .vs) ≡ true = every-by isVerdict (t .vs) (λ i h. is-verdict _ _ (t .seen .verdicts i (omega arith))) in
-    let sum = tally.counts-each fresh (t .vs) (t .ps) known in
-    let many = numbers-len (length bs / 8) bs 0 in
+    let sum = tally.counts-each fresh (t .vs) (t .ps) (all-verdicts (t .seen)) in
+    let same = ap framesIn (tally.from-fresh (t .vs) (t .ps)) in
+    let many = as-many (t .seen) in
     let frames = ap (λ (x : Totals). x .frames) (t .counted) in (omega arith, ap (λ (x : Totals). x .left) (t .counted))

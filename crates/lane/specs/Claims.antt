@@ -5,23 +5,24 @@
 -- │ OneCount            │ no second answer meets the contract of `count`           │
 -- │ Pieces t bss u      │ the pieces bss, counted one after the other, take t to   │
 -- │                     │ u; each but the last is of whole frames                  │
--- │ joining bss         │ the bytes of all pieces                                  │
 -- │ Total bs u          │ u has the counts over all whole frames of bs, and the    │
 -- │                     │ bytes that are left over                                 │
 -- │ InPieces            │ counting in pieces is counting all at once               │
 -- │ EachFrameOnce       │ totals have each whole frame once, and the rest of bs    │
 -- └─────────────────────┴──────────────────────────────────────────────────────────┘
 use mathlib.Core.Path.{_≡_}
-use mathlib.Core.List.{List, [], _∷_, _++_}
+use mathlib.Core.List.{List, [], _∷_}
 use Prim.Native.Nat.{ℕ, _/_, _%_}
 use lib.ListN.{length}
-use Rattle.laws.specs.Bits.{Octets}
+use Rattle.paper.specs.Answer.{gives}
+use Rattle.laws.specs.Bits.{Octets, joining}
 use Rattle.tally.specs.Counts.{fresh, counts}
 use Rattle.tally.specs.declared.Tally.{Tally}
-use Rattle.lane.specs.Counts.{Seen, totalsOf, Counts}
+use Rattle.lane.specs.Seen.{Seen}
+use Rattle.lane.specs.Answers.{answer}
+use Rattle.lane.specs.Calls.{totalsOf, CountsPiece}
 use Rattle.lane.specs.declared.Totals.{Totals}
 use Rattle.lane.specs.declared.Counted.{Counted}
-use Rattle.lane.specs.declared.Counted.the-variants.{Next}
 
 abbrev pub OneSeen : Type 0
 OneSeen = (bs vs ps ws qs : List ℕ) → Octets bs → Seen bs vs ps → Seen bs ws qs → (vs ≡ ws) × (ps ≡ qs)
@@ -30,16 +31,12 @@ abbrev pub SomeSeen : Type 0
 SomeSeen = (bs : List ℕ) → Octets bs → (vs : List ℕ) × ((ps : List ℕ) × Seen bs vs ps)
 
 abbrev pub OneCount : Type 0
-OneCount = (t : Tally) (bs : List ℕ) (r s : Counted) → Octets bs → Counts t bs r → Counts t bs s → r ≡ s
+OneCount = (t : Tally) (bs : List ℕ) (r s : Counted) → Octets bs → CountsPiece t bs (answer r) → CountsPiece t bs (answer s) → r ≡ s
 
 pub data Pieces : Tally → List (List ℕ) → Totals → Type 0 where
-  last : {t : Tally} {u : Totals} {bs : List ℕ} → Counts t bs (Next u) → Pieces t (bs ∷ []) u
+  last : {t : Tally} {u : Totals} {bs : List ℕ} → CountsPiece t bs (gives u) → Pieces t (bs ∷ []) u
   more : {t : Tally} {u w : Totals} {bs : List ℕ} {bss : List (List ℕ)}
-      → length bs % 8 ≡ 0 → Counts t bs (Next u) → Pieces (u .tally) bss w → Pieces t (bs ∷ bss) w
-
-unfoldable pub joining : List (List ℕ) → List ℕ
-joining [] = []
-joining (bs ∷ bss) = bs ++ joining bss
+      → length bs % 8 ≡ 0 → CountsPiece t bs (gives u) → Pieces (u .tally) bss w → Pieces t (bs ∷ bss) w
 
 pub record Total (bs : List ℕ) (u : Totals) : Type 0 where
   pub vs : List ℕ

@@ -1,3 +1,5 @@
-pub mod Counts
+pub mod Seen
+pub mod Answers
+pub mod Calls
 pub mod Parts
 pub mod Claims

@@ -1,25 +1,44 @@
--- What the private functions owe beyond the other files. No public contract cites it.
+-- What only private functions cite.
 -- ┌─────────────────┬──────────────────────────────────────────────────────────────┐
--- │ answerTo a left │ the count's answer where the tally answers a and so many     │
+-- │ outputs v p     │ the outputs of a piece: the verdicts, and the pad flags      │
+-- │ SeesBy c b bs   │ they show the whole frames of bs, read by the tables c and b │
+-- │   v p           │                                                              │
+-- │ Sees bs v p     │ they show an answer to each, owed by `Reads`                 │
+-- │ totalled left a │ the count's answer where the tally answers a and so many     │
 -- │                 │ bytes are left over                                          │
--- │ Few a           │ where a is the next tally, its frames are at most 2^53 - 1   │
+-- │ StaysIn a       │ where a is the next tally, it is in its range                │
 -- └─────────────────┴──────────────────────────────────────────────────────────────┘
 use mathlib.Core.Path.{_≡_}
-use Prim.Native.Nat.{ℕ, _≤_}
-use Rattle.paper.specs.Numbers.{mostCounted}
-use Rattle.tally.specs.Ranges.{framesIn}
+use mathlib.Core.Bool.{true}
+use mathlib.Core.List.{List, [], _∷_, map}
+use Prim.Native.Nat.{ℕ}
+use Rattle.paper.specs.Answer.{Answer, gives, refused}
+use Rattle.laws.specs.Lent.{Lent, Output, AllShow, Written}
+use Rattle.octets.specs.Octets.{numbersOf}
+use Rattle.reader.specs.Answers.{Found, verdict, padIn}
+use Rattle.reader.specs.Reads.{Reads}
+use Rattle.reader.specs.ByTables.{readBy}
+use Rattle.reader.specs.Lists.{shown}
+use Rattle.tally.specs.Ranges.{inRange}
 use Rattle.tally.specs.declared.Tally.{Tally}
 use Rattle.tally.specs.declared.Added.{Added}
-use Rattle.tally.specs.declared.Added.the-variants.{Next as Taken, Unequal, OutOfRange as Outside, Full as Past}
-use Rattle.lane.specs.Counts.{totalsOf}
-use Rattle.lane.specs.declared.Counted.{Counted}
-use Rattle.lane.specs.declared.Counted.the-variants.{Next, TooLong, OutOfRange, Full}
+use Rattle.tally.specs.declared.Added.the-variants.{Next, Refused}
+use Rattle.lane.specs.Calls.{totalsOf}
+use Rattle.lane.specs.declared.Totals.{Totals}
 
-abbrev pub answerTo : Added → ℕ → Counted
-answerTo (Taken u) left = Next (totalsOf u left)
-answerTo Unequal left = TooLong
-answerTo Outside left = OutOfRange
-answerTo Past left = Full
+abbrev pub outputs : Lent → Lent → List (Output (Answer Found))
+outputs v p = shown verdict v ∷ shown padIn p ∷ []
 
-abbrev pub Few : Added → Type 0
-Few a = (u : Tally) → a ≡ Taken u → framesIn u ≤ mostCounted
+abbrev pub SeesBy : List ℕ → List ℕ → List ℕ → Lent → Lent → Type 0
+SeesBy c b bs v p = AllShow (map (readBy c b) (numbersOf bs)) (outputs v p)
+
+abbrev pub Sees : List ℕ → Lent → Lent → Type 0
+Sees bs v p = Written Reads (numbersOf bs) (outputs v p)
+
+abbrev pub totalled : ℕ → Answer Tally → Answer Totals
+totalled left (gives t) = gives (totalsOf t left)
+totalled left (refused n) = refused n
+
+abbrev pub StaysIn : Added → Type 0
+StaysIn (Next t) = inRange t ≡ true
+StaysIn (Refused n) = Unit

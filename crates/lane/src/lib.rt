@@ -1,12 +1,16 @@
 // The count of a lane: bytes to frames, frames to verdicts and pad flags, these to the tally.
 ghost use mathlib.Core.Path.{_≡_};
-ghost use Prim.Native.Nat.{_%_, _≤_};
-ghost use Rattle.paper.specs.Numbers.{mostBytes, mostCounted};
-ghost use Rattle.tally.specs.Ranges.{framesIn};
+ghost use mathlib.Core.Bool.{true};
+ghost use Prim.Native.Nat.{_/_, _%_, _≤_};
 ghost use lib.ListN.{length};
-ghost use Rattle.lane.specs.Counts.{numberOf, totalsOf, SeenIn, Counts};
-ghost use Rattle.lane.specs.Parts.{answerTo, Few};
+ghost use Rattle.laws.specs.Lent.{lent};
+ghost use Rattle.tally.specs.Ranges.{inRange};
+ghost use Rattle.tally.specs.Answers.{answer as added};
+ghost use Rattle.lane.specs.Answers.{answer};
+ghost use Rattle.lane.specs.Calls.{totalsOf, CountsPiece};
+ghost use Rattle.lane.specs.Parts.{SeesBy, Sees, totalled, StaysIn};
 use tally::Added;
+use tally::HowMany;
 use tally::Tally;
 
 // A tally, how many frames it has counted, and the bytes after the last whole frame.
@@ -20,68 +24,67 @@ pub struct Totals {
 // it passed.
 pub enum Counted {
     Next(Totals),
-    TooLong,
-    OutOfRange,
-    Full,
+    Refused(u8),
 }
 
-// The number of an answer: 0 where it is the next totals.
-pub fn number_of(c: Counted) -> u8
-    ensures { λ n. ⌜ n ≡ numberOf c ⌝ }
+fn with_frames(t: Tally, left: u64) -> Counted
+    requires { ⌜ inRange t ≡ true ⌝ }
+    ensures { λ r. ⌜ r ≡ Counted.Next (totalsOf t left) ⌝ }
 {
-    match c {
-        Counted::Next(_) => 0,
-        Counted::TooLong => paper::UNFIT,
-        Counted::OutOfRange => paper::OUTSIDE,
-        Counted::Full => paper::PAST_COUNT,
-    }
-}
-
-fn with_frames(t: Tally, left: u64) -> Totals
-    requires { ⌜ framesIn t ≤ mostCounted ⌝ }
-    ensures { λ r. ⌜ r ≡ totalsOf t left ⌝ }
-{
-    Totals {
-        tally: t,
-        frames: t.clean + t.one + t.two + t.no_word + t.run_broken,
-        left,
+    match t.frames() {
+        HowMany::Frames(frames) => Counted::Next(Totals {
+            tally: t,
+            frames,
+            left,
+        }),
+        HowMany::Refused(n) => Counted::Refused(n),
     }
 }
 
 // The count's answer to the tally's, for a piece of so many bytes.
 fn answered(a: Added, bytes: usize) -> Counted
-    requires { ⌜ Few a ⌝ }
-    ensures { λ r. ⌜ r ≡ answerTo a (bytes % 8) ⌝ }
+    requires { ⌜ StaysIn a ⌝ }
+    ensures { λ r. ⌜ answer r ≡ totalled (bytes % 8) (added a) ⌝ }
 {
     match a {
-        Added::Next(u) => Counted::Next(with_frames(u, (bytes % 8) as u64)),
-        Added::Unequal => Counted::TooLong,
-        Added::OutOfRange => Counted::OutOfRange,
-        Added::Full => Counted::Full,
+        Added::Next(u) => with_frames(u, (bytes % 8) as u64),
+        Added::Refused(n) => Counted::Refused(n),
     }
 }
 
-// The verdicts and pad flags of the whole frames of a piece; answers how many there are.
-fn see(bytes: &[u8], verdicts: &mut [u8; 8192], pads: &mut [u8; 8192]) -> usize
-    requires { ⌜ length (now bytes) ≤ mostBytes ⌝ }
-    ensures { λ n. ⌜ SeenIn (now (bytes .entry)) n (now (verdicts .exit)) (now (pads .exit)) ⌝ }
+fn see_by(c: &[u16; 4096], b: &[u16; 2048], bytes: &[u8], verdicts: &mut [u8], pads: &mut [u8])
+    requires { ⌜ (length (now bytes) / 8 ≤ length (now verdicts)) × (length (now bytes) / 8 ≤ length (now pads)) ⌝ }
+    ensures { λ _. ⌜ SeesBy (now (c .entry)) (now (b .entry)) (now (bytes .entry)) (lent verdicts) (lent pads) ⌝ }
 {
-    let mut frames = [0u64; 8192];
-    let mut data = [0u64; 8192];
-    let n = octets::numbers(bytes, &mut frames);
-    reader::read_list_pads(&frames[..n], &mut data, verdicts, pads);
-    n
+    let mut i = 0;
+    while i < bytes.len() / 8 {
+        let r = reader::read_by(c, b, octets::number(bytes, i));
+        verdicts[i] = reader::verdict_of(r);
+        pads[i] = reader::pad_of(r);
+        i += 1;
+    }
+}
+
+// The verdict and the pad flag of each whole frame of a piece. The tables are taken once.
+fn see(bytes: &[u8], verdicts: &mut [u8], pads: &mut [u8])
+    requires { ⌜ (length (now bytes) / 8 ≤ length (now verdicts)) × (length (now bytes) / 8 ≤ length (now pads)) ⌝ }
+    ensures { λ _. ⌜ Sees (now (bytes .entry)) (lent verdicts) (lent pads) ⌝ }
+{
+    let c = tables::corrections();
+    let b = tables::byte_sums();
+    see_by(&c, &b, bytes, verdicts, pads);
 }
 
 // The whole frames of a piece of at most 65,536 bytes, counted on.
 pub fn count(t: Tally, bytes: &[u8]) -> Counted
-    ensures { λ r. ⌜ Counts t (now (bytes .entry)) r ⌝ }
+    ensures { λ r. ⌜ CountsPiece t (now (bytes .entry)) (answer r) ⌝ }
 {
     if paper::MOST_BYTES < bytes.len() {
-        return Counted::TooLong;
+        return Counted::Refused(paper::UNFIT);
     }
     let mut verdicts = [0u8; 8192];
     let mut pads = [0u8; 8192];
-    let n = see(bytes, &mut verdicts, &mut pads);
+    see(bytes, &mut verdicts, &mut pads);
+    let n = bytes.len() / 8;
     answered(t.add_list(&verdicts[..n], &pads[..n]), bytes.len())
 }

@@ -13,12 +13,13 @@ use mathlib.Core.List.{List}
 use Prim.Native.Nat.{ℕ}
 use lib.ListN.{take}
 use Rattle.input.specs.declared.Input.{Input}
-use Rattle.input.specs.declared.Input.the-variants.{Full as Filled, Last, Failed}
+use Rattle.input.specs.declared.Input.the-variants.{Full, Last, Failed}
 use Rattle.tally.specs.declared.Tally.{Tally}
-use Rattle.lane.specs.Counts.{Counts}
+use Rattle.lane.specs.Answers.{answer}
+use Rattle.lane.specs.Calls.{CountsPiece}
 use Rattle.lane.specs.declared.Totals.{Totals}
 use Rattle.lane.specs.declared.Counted.{Counted}
-use Rattle.lane.specs.declared.Counted.the-variants.{Next, TooLong, OutOfRange, Full}
+use Rattle.lane.specs.declared.Counted.the-variants as count
 use Rattle.listing.specs.declared.State.{State}
 use Rattle.listing.specs.declared.State.the-variants.{More, Done, Unread, Refused}
 
@@ -27,12 +28,10 @@ ended true u = Done u
 ended false u = More u
 
 abbrev pub stateOf : Counted → Bool → State
-stateOf (Next u) last = ended last u
-stateOf TooLong last = Refused
-stateOf OutOfRange last = Refused
-stateOf Full last = Refused
+stateOf (count.Next u) last = ended last u
+stateOf (count.Refused n) last = Refused
 
 abbrev pub TurnsTo : Tally → List ℕ → Input → State → Type 0
-TurnsTo t bs Filled r = (c : Counted) × Counts t bs c × (r ≡ stateOf c false)
-TurnsTo t bs (Last n) r = (c : Counted) × Counts t (take n bs) c × (r ≡ stateOf c true)
+TurnsTo t bs Full r = (c : Counted) × CountsPiece t bs (answer c) × (r ≡ stateOf c false)
+TurnsTo t bs (Last n) r = (c : Counted) × CountsPiece t (take n bs) (answer c) × (r ≡ stateOf c true)
 TurnsTo t bs Failed r = r ≡ Unread

@@ -23,9 +23,7 @@ fn counted(c: Counted, last: bool) -> State
 {
     match c {
         Counted::Next(u) => { if last { State::Done(u) } else { State::More(u) } }
-        Counted::TooLong => State::Refused,
-        Counted::OutOfRange => State::Refused,
-        Counted::Full => State::Refused,
+        Counted::Refused(_) => State::Refused,
     }
 }
 

@@ -106,4 +106,5 @@ one-got bs at n r s g h = known r s (g ∙ sym h)
 pub one-put : OnePut
 one-put o₀ o p at n x r s a b =
     let e : listed r ≡ listed s = a .answer ∙ sym (b .answer) in
-    (listed-one r s e, one-left (listed s) o₀ (λ u w. u ∙ sym w) (subst (λ (l : Answer Unit). Left l (o ≡ placed o₀ at n x) o₀ o) e (a .bytes)) (b .bytes))
+    let w = subst (λ (l : Answer Unit). Left l (o ≡ placed o₀ at n x) o₀ o) e (a .bytes) in
+    (listed-one r s e, one-left (listed s) o₀ (λ u v. u ∙ sym v) w (b .bytes))

@@ -40,7 +40,8 @@ joined-head zero bs at = let e : getD bs (at + 0) 0 ≡ getD bs at 0 = ap (λ (i
 joined-head (suc n) bs at =
     let i : at + suc n ≡ at + 1 + n = omega arith in
     ap₂ (λ (a b : ℕ). a * 256 + b) (joined-head n bs at) (ap (λ (k : ℕ). getD bs k 0) i)
-    ∙ (let e : getD bs at 0 * 256 ^ n * 256 ≡ getD bs at 0 * 256 ^ suc n = mul-assoc (getD bs at 0) (256 ^ n) 256 ∙ ap (λ (p : ℕ). getD bs at 0 * p) (sym (pow-suc 256 n)) in
+    ∙ (let b : ℕ = getD bs at 0 in
+    let e : b * 256 ^ n * 256 ≡ b * 256 ^ suc n = mul-assoc b (256 ^ n) 256 ∙ ap (λ (p : ℕ). b * p) (sym (pow-suc 256 n)) in
     omega arith)
 
 pub joined-lt : (n : ℕ) (bs : List ℕ) (at : ℕ) → Octets bs → joined n bs at < 256 ^ n
@@ -72,7 +73,8 @@ above : (n m y : ℕ) → inBytes n (m * 256 ^ n + y) ≡ inBytes n y
 unfolding inBytes
 above zero m y = refl
 above (suc n) m y =
-    let e : m * 256 ^ suc n + y ≡ m * 256 * 256 ^ n + y = ap (λ (p : ℕ). m * p + y) (pow-succ' 256 n) ∙ ap (λ (p : ℕ). p + y) (sym (mul-assoc m 256 (256 ^ n))) in
+    let s : m * 256 ^ suc n ≡ m * 256 * 256 ^ n = ap (λ (p : ℕ). m * p) (pow-succ' 256 n) ∙ sym (mul-assoc m 256 (256 ^ n)) in
+    let e : m * 256 ^ suc n + y ≡ m * 256 * 256 ^ n + y = ap (λ (p : ℕ). p + y) s in
     ap (λ (z : ℕ). z / 256 ^ n % 256 ∷ inBytes n z) e
     ∙ ap₂ (λ (z : ℕ) (l : List ℕ). z ∷ l)
     (ap (λ (q : ℕ). q % 256) (mul-add-div-right (base n) (m * 256) y) ∙ mul-add-mod-self-right m 256 (y / 256 ^ n))

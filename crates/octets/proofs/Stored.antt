@@ -46,7 +46,8 @@ eight-stores (x0 ∷ x1 ∷ x2 ∷ x3 ∷ x4 ∷ x5 ∷ x6 ∷ []) k a b c d e f
 eight-stores (x0 ∷ x1 ∷ x2 ∷ x3 ∷ x4 ∷ x5 ∷ x6 ∷ x7 ∷ []) k a b c d e f g h = refl
 eight-stores (x0 ∷ x1 ∷ x2 ∷ x3 ∷ x4 ∷ x5 ∷ x6 ∷ x7 ∷ x8 ∷ l) k a b c d e f g h = absurd (nine (length l) k)
 
-pub part-stored : (o ys : List ℕ) (i k x : ℕ) → i < length o / 8 → k ≡ 8 → ys ≡ eight x → take (i * 8) o ++ (ys ++ drop k (drop (i * 8) o)) ≡ stored o i x
+pub part-stored : (o ys : List ℕ) (i k x : ℕ) → i < length o / 8 → k ≡ 8 → ys ≡ eight x
+    → take (i * 8) o ++ (ys ++ drop k (drop (i * 8) o)) ≡ stored o i x
 part-stored o ys i k x h e y =
     ap₂ (λ (l r : List ℕ). take (i * 8) o ++ (l ++ r)) y (ap (λ (n : ℕ). drop n (drop (i * 8) o)) e ∙ drop-drop 8 (i * 8) o)
     ∙ sym (ap (λ (b : Bool). cond b (take (i * 8) o ++ (eight x ++ drop (i * 8 + 8) o)) o) (lt-ltb i (length o / 8) h))

@@ -1,15 +1,21 @@
 -- `lane::count` meets its contract: the answer to the tally's answer to what was seen.
-use mathlib.Core.Path.{_≡_, refl, sym}
+use mathlib.Core.Path.{refl, sym}
 use mathlib.Core.Logic.{inl}
 use native.Mathlib.Omega.{arith}
 use borrow.Author.Needs.{needs}
 use lib.Seq.{length-take-le}
-use Rattle.lane.proofs.Piece.{few-frames, counts-answer}
+use Rattle.lane.proofs.Piece.{seen-in, stays-in, counts-answer}
 use Rattle.lane.proofs.count.Statement.{statement}
 use Rattle.lane.proofs.count.Tie as tie
 
 returns : tie.Need-returns
 returns c = inl (omega arith, refl)
+
+slice-aggregate-see : tie.Need-slice-aggregate-see
+slice-aggregate-see c = search needs
+
+slice-aggregate-see-2 : tie.Need-slice-aggregate-see-2
+slice-aggregate-see-2 c = search needs
 
 see-requires : tie.Need-see-requires
 see-requires c κs = search needs
@@ -30,18 +36,22 @@ add-list-requires : tie.Need-add-list-requires
 add-list-requires c κs = search needs
 
 answered-requires : tie.Need-answered-requires
-answered-requires c κs = few-frames (c .add-list .ensures)
+answered-requires c κs = stays-in _ _ _ (c .add-list .result) (c .add-list .ensures)
 
 returns-2 : tie.Need-returns-2
 returns-2 c =
-    let s = c .before .before .before .before in
-    counts-answer _ _ _ _ _ _ _ (omega arith) (s .see .ensures) (c .before .add-list .ensures) (c .answered .ensures)
+    let s = c .before .before .before .before .before .before in
+    let bs = s .before .before .before .before .before .args .bytes .now in
+    counts-answer _ bs _ _ _ _ (omega arith) (seen-in bs _ _ (omega arith) (omega arith) (s .see .ensures))
+    (c .before .add-list .ensures) (c .answered .ensures)
 
 pub count-spec : {M : Type 1} → statement M
 count-spec =
     tie.close
     (tie.spec
     returns
+    slice-aggregate-see
+    slice-aggregate-see-2
     see-requires
     array-share-prefix-verdicts
     slice-aggregate-add-list

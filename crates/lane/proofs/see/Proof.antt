@@ -1,45 +1,49 @@
--- `lane::see` meets its contract, by `seen-in`.
-use mathlib.Core.Path.{_≡_, sym}
-use Prim.Native.Nat.{ℕ, _/_, _≤_}
-use native.Mathlib.Omega.{arith}
+-- `lane::see` meets its contract, by the rules of both tables.
+use mathlib.Core.List.{map}
 use borrow.Author.Needs.{needs}
-use lib.Seq.{length-take-le}
-use Rattle.lane.proofs.Piece.{seen-in}
+use Rattle.octets.specs.Octets.{numbersOf}
+use Rattle.octets.proofs.Joined.{numbers-lt}
+use Rattle.reader.specs.ByTables.{readBy}
+use Rattle.reader.proofs.ByTables.{answers-by}
 use Rattle.lane.proofs.see.Statement.{statement}
 use Rattle.lane.proofs.see.Tie as tie
 
-slice-aggregate-numbers : tie.Need-slice-aggregate-numbers
-slice-aggregate-numbers c = search needs
+corrections-requires : tie.Need-corrections-requires
+corrections-requires c κs = search needs
 
-numbers-requires : tie.Need-numbers-requires
-numbers-requires c κs = search needs
+byte-sums-requires : tie.Need-byte-sums-requires
+byte-sums-requires c κs = search needs
 
-array-share-prefix-frames : tie.Need-array-share-prefix-frames
-array-share-prefix-frames c = search needs
+see-by-requires : tie.Need-see-by-requires
+see-by-requires c κs = search needs
 
-slice-aggregate-read-list-pads : tie.Need-slice-aggregate-read-list-pads
-slice-aggregate-read-list-pads c = sym (length-take-le _ _ (array-share-prefix-frames (c .before)))
+same-length : tie.Need-same-length
+same-length c = search needs
 
-slice-aggregate-read-list-pads-2 : tie.Need-slice-aggregate-read-list-pads-2
-slice-aggregate-read-list-pads-2 c = search needs
-
-read-list-pads-requires : tie.Need-read-list-pads-requires
-read-list-pads-requires c κs = search needs
-
-room : {k : ℕ} (m : ℕ) → k ≤ 65536 → m ≡ 8192 → k / 8 ≤ m
-room m h e = omega arith
+same-length-2 : tie.Need-same-length-2
+same-length-2 c = search needs
 
 returns : tie.Need-returns
-returns c = seen-in _ _ _ _ _ _ _ _ _ _ _ (omega arith) (omega arith) (room _ (c .before .before .before .before .before .before .before .before .before .before .pre) (search needs)) (room _ (c .before .before .before .before .before .before .before .before .before .before .pre) (search needs)) (c .before .before .before .before .before .before .before .numbers .ensures) (c .before .read-list-pads .ensures)
+returns c =
+    let e = c .before .before .before .before in
+    let s = e .before .before .before .before .before in
+    let t = s .before .corrections in
+    let k = s .before .before .before .before in
+    let bs = k .before .args .bytes .now in
+    record {
+      ys = map (readBy (t .result) (s .byte-sums .result)) (numbersOf bs);
+      each = answers-by (t .result) (s .byte-sums .result) (t .ensures) (s .byte-sums .ensures) (numbersOf bs)
+          (numbers-lt bs (λ i. k .shared-slice-known .given i .fits));
+      all = e .see-by .ensures;
+    }
 
 pub see-spec : {M : Type 1} → statement M
 see-spec =
     tie.close
     (tie.spec
-    slice-aggregate-numbers
-    numbers-requires
-    array-share-prefix-frames
-    slice-aggregate-read-list-pads
-    slice-aggregate-read-list-pads-2
-    read-list-pads-requires
+    corrections-requires
+    byte-sums-requires
+    see-by-requires
+    same-length
+    same-length-2
     returns)

@@ -11,12 +11,6 @@ enum-known-c c = search needs
 enum-told : tie.Need-enum-told
 enum-told c = search needs
 
-enum-told-2 : tie.Need-enum-told-2
-enum-told-2 c = search needs
-
-enum-told-3 : tie.Need-enum-told-3
-enum-told-3 c = search needs
-
 returns : tie.Need-returns
 returns c = sym (ap₂ stateOf (c .before .before .c .given .1) (c .if1 .taken))
 
@@ -26,22 +20,5 @@ returns-2 c = sym (ap₂ stateOf (c .before .before .c .given .1) (c .if1 .left)
 returns-3 : tie.Need-returns-3
 returns-3 c = search needs
 
-returns-4 : tie.Need-returns-4
-returns-4 c = search needs
-
-returns-5 : tie.Need-returns-5
-returns-5 c = search needs
-
 pub counted-spec : {M : Type 1} → statement M
-counted-spec =
-    tie.close
-    (tie.spec
-    enum-known-c
-    enum-told
-    enum-told-2
-    enum-told-3
-    returns
-    returns-2
-    returns-3
-    returns-4
-    returns-5)
+counted-spec = tie.close (tie.spec enum-known-c enum-told returns returns-2 returns-3)

@@ -65,8 +65,9 @@ add-result c = search needs
 
 returns : tie.Need-returns
 returns c =
-    let a = c .before .before .before .before .before .before .before .before .before .before .before in
-    ap₂ (λ (x y : ℕ). x * 2 ^ 32 + y) (c .before .before .before .before .before .four .ensures .0) (c .four2 .ensures .0) ∙ joined-eight (a .args .b .now) (a .args .at)
+    let f = c .before .before .before .before .before in
+    let a = f .before .before .before .before .before .before .args in
+    ap₂ (λ (x y : ℕ). x * 2 ^ 32 + y) (f .four .ensures .0) (c .four2 .ensures .0) ∙ joined-eight (a .b .now) (a .at)
 
 pub number-at-spec : {M : Type 1} → statement M
 number-at-spec =

@@ -30,8 +30,10 @@ same-length c = search needs
 
 returns : tie.Need-returns
 returns c =
-    let a = c .before .before .before .before .before .before in
-    part-stored (a .args .out .now) (c .before .before .put-eight .last .0) (a .args .i) (a .args .i * 8 + 8 - a .args .i * 8) (a .args .x) (c .before .before .before .before .if1 .taken) (omega arith) (c .before .before .put-eight .ensures)
+    let p = c .before .before .put-eight in
+    let a = c .before .before .before .before .before .before .args in
+    part-stored (a .out .now) (p .last .0) (a .i) (a .i * 8 + 8 - a .i * 8) (a .x) (c .before .before .before .before .if1 .taken) (omega arith)
+    (p .ensures)
 
 returns-2 : tie.Need-returns-2
 returns-2 c = simp (le-ltb _ _ (c .if1 .left))

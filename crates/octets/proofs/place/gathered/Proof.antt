@@ -23,7 +23,8 @@ loop-holds c = (omega arith, refl, omega arith)
 mul-x : tie.Need-mul-x Inv-loop μ-loop
 mul-x c =
     let l = c .before .loop in
-    omega (arith, one-byte-more (l .x) 0 (l .i) (c .before .before .args .n) (c .loop-test .taken) (c .before .before .pre .0) (l .inv .2) (omega arith))
+    let s = c .before .before in
+    omega (arith, one-byte-more (l .x) 0 (l .i) (s .args .n) (c .loop-test .taken) (s .pre .0) (l .inv .2) (omega arith))
 
 add-x : tie.Need-add-x Inv-loop μ-loop
 add-x c = search needs
@@ -43,7 +44,8 @@ more : (c : tie.After-shared-slice-known Inv-loop μ-loop) → let l = c .before
 more c =
     let l = c .before .before .loop in
     let s = c .before .before .before in
-    one-byte-more (l .x) (getD (s .args .bytes .now) (s .args .at + l .i) 0) (l .i) (s .args .n) (c .before .loop-test .taken) (s .pre .0) (l .inv .2) (byte c)
+    one-byte-more (l .x) (getD (s .args .bytes .now) (s .args .at + l .i) 0) (l .i) (s .args .n) (c .before .loop-test .taken) (s .pre .0)
+    (l .inv .2) (byte c)
 
 cast-x : tie.Need-cast-x Inv-loop μ-loop
 cast-x c = omega (arith, byte c)

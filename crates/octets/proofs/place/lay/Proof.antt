@@ -66,7 +66,8 @@ returns c =
     let l = c .before .loop in
     let a = c .before .before .args in
     let z : l .i ≡ 0 = omega arith in
-    ap (λ (n : ℕ). drop n (l .out)) (sym z) ∙ l .inv .2 ∙ ap (λ (n : ℕ). inBytes n (a .x)) (let e : length (a .out .now) - l .i ≡ length (a .out .now) = omega arith in e)
+    let e : length (a .out .now) - l .i ≡ length (a .out .now) = omega arith in
+    ap (λ (n : ℕ). drop n (l .out)) (sym z) ∙ l .inv .2 ∙ ap (λ (n : ℕ). inBytes n (a .x)) e
 
 pub lay-spec : {M : Type 1} → statement M
 lay-spec =

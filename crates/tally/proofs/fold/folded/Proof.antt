@@ -49,7 +49,9 @@ step-requires c κs =
     let l = c .before .before .before .before .before .loop in
     let a = c .before .before .before .before .before .before .before .before .args in
     let f = l .inv .spare in
-    let k = two (isVerdict (getD (a .verdicts .now) (l .i) 0)) (isFlag (getD (a .pads .now) (l .i) 0)) (sym (c .before .known .ensures) ∙ not-false _ (c .if1 .left)) in
+    let v = getD (a .verdicts .now) (l .i) 0 in
+    let p = getD (a .pads .now) (l .i) 0 in
+    let k = two (isVerdict v) (isFlag p) (sym (c .before .known .ensures) ∙ not-false _ (c .if1 .left)) in
     (record { frames = omega (arith, f .frames); pads = omega (arith, f .pads) }, k .1)
 
 add-i : tie.Need-add-i Inv-loop μ-loop

@@ -16,7 +16,8 @@ fresh-requires c κs = search needs
 folded-requires : tie.Need-folded-requires
 folded-requires c κs =
     let s = c .before .before .before in
-    (s .pre, subst (λ (t : Tally). Spare t (length (s .args .verdicts .now))) (sym (c .fresh .ensures)) (record { frames = omega arith; pads = omega arith }))
+    let n = length (s .args .verdicts .now) in
+    (s .pre, subst (λ (t : Tally). Spare t n) (sym (c .fresh .ensures)) (record { frames = omega arith; pads = omega arith }))
 
 enum-told : tie.Need-enum-told
 enum-told c = search needs

@@ -46,10 +46,16 @@ add-if6-2 : tie.Need-add-if6-2
 add-if6-2 c = search needs
 
 returns-6 : tie.Need-returns-6
-returns-6 c = past (c .before .before .before .before .before .before .before .before .before .before .before .before .before .before .before .args .t) (omega arith)
+returns-6 c =
+    let d = c .before .before .before .before .before in
+    let e = d .before .before .before .before .before in
+    past (e .before .before .before .before .before .args .t) (omega arith)
 
 returns-7 : tie.Need-returns-7
-returns-7 c = within (c .before .before .before .before .before .before .before .before .before .before .before .before .before .before .before .before .args .t) (c .before .if6 .left)
+returns-7 c =
+    let d = c .before .before .before .before .before in
+    let e = d .before .before .before .before .before in
+    within (e .before .before .before .before .before .before .args .t) (c .before .if6 .left)
 
 pub in-range-spec : {M : Type 1} → statement M
 in-range-spec =

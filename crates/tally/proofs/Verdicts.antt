@@ -9,17 +9,14 @@
 -- │ flag-number  │ a pad flag counts itself                                        │
 -- │ flag-few     │ a pad flag is 1 at most                                         │
 -- │ verdict-ind  │ what holds of the five verdict bytes holds of each              │
--- │ every-by     │ a test of each number of a list, place by place                 │
 -- └──────────────┴─────────────────────────────────────────────────────────────────┘
 use mathlib.Core.Path.{_≡_, refl, sym, subst}
 use mathlib.Core.Bool.{Bool, true, false, cond, _||_}
-use mathlib.Core.List.{List, [], _∷_}
 use Prim.Native.Nat.{ℕ, zero, suc, _≤_, _<_}
 use native.Mathlib.Omega.{arith}
 use borrow.Author.Tests.{ne-eqb, eqb-true}
 use lib.Dec.{eqb}
-use lib.ListN.{length, getD}
-use Rattle.tally.specs.Ranges.{accepted, isVerdict, isFlag, every}
+use Rattle.tally.specs.Ranges.{accepted, isVerdict, isFlag}
 
 pub below-three : (P : ℕ → Type 0) → P 0 → P 1 → P 2 → (v : ℕ) → v ≤ 2 → P v
 below-three P p q r zero h = p
@@ -72,8 +69,3 @@ module _ (P : ℕ → Type 0) where
       pick : (a : Bool) (k : ℕ) → P k → (a ≡ true → P v) → a || eqb v k ≡ true → P v
       pick true k p f e = f refl
       pick false k p f e = at-last v k p e
-
-pub every-by : (f : ℕ → Bool) (l : List ℕ) → ((i : ℕ) → i < length l → f (getD l i 0) ≡ true) → every f l ≡ true
-unfolding every
-every-by f [] h = refl
-every-by f (x ∷ l) h = simp (h 0 (omega arith), every-by f l (λ i k. h (suc i) (omega arith)))

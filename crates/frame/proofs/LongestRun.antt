@@ -14,7 +14,7 @@ use Rattle.poly.specs.Poly.{rem}
 use Rattle.poly.proofs.Division.{is-divisible}
 use Rattle.frame.specs.Word.{wordOf, dataOf, FrameOf}
 use Rattle.frame.specs.Line.{lineBit, AllLawful, Run, longestRun}
-use Rattle.frame.specs.Claims.{RunBound, RunReached}
+use Rattle.frame.specs.Claims.{RunBound, RunReached, LastBitRun}
 
 -- positions i and i + 1 of a frame are not equal
 Apart : ℕ → ℕ → Type 0
@@ -137,3 +137,6 @@ run-reached = (example, lawful, 16, (lit≤ tt, λ j h. eqb→eq (lineBit exampl
       },
     )
     lawful (suc i) h = absurd (not-suc-le-zero (le-of-suc-le-suc h))
+
+pub last-bit-run : LastBitRun
+last-bit-run fs h = (omega arith, λ j l. ap (lineBit fs) (let e : 64 * length fs - 1 + j ≡ 64 * length fs - 1 = omega arith in e))

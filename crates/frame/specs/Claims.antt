@@ -5,10 +5,12 @@
 -- │ FrameHigh  │ as a number it is at least 2^47                                 │
 -- │ RunBound   │ lawful frames end to end have no run longer than `longestRun`   │
 -- │ RunReached │ and some have one as long                                       │
+-- │ LastBitRun │ the last bit of a line is in a run                              │
 -- └────────────┴─────────────────────────────────────────────────────────────────┘
 use mathlib.Core.Path.{_≡_}
 use mathlib.Core.List.{List}
-use Prim.Native.Nat.{ℕ, _^_, _<_, _≤_}
+use Prim.Native.Nat.{ℕ, _-_, _*_, _^_, _<_, _≤_}
+use lib.ListN.{length}
 use Rattle.frame.specs.Word.{dataEnd, FrameOf}
 use Rattle.frame.specs.Line.{AllLawful, Run, longestRun}
 
@@ -26,3 +28,6 @@ RunBound = (fs : List ℕ) → AllLawful fs → (s n : ℕ) → Run fs s n → n
 
 abbrev pub RunReached : Type 0
 RunReached = (fs : List ℕ) × AllLawful fs × (s : ℕ) × Run fs s longestRun
+
+abbrev pub LastBitRun : Type 0
+LastBitRun = (fs : List ℕ) → 0 < length fs → Run fs (64 * length fs - 1) 1

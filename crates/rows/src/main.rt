@@ -12,6 +12,12 @@ fn number(n: u64) {
     io::print_decimal(STDOUT_FILENO, n);
 }
 
+fn refusal(n: u8) {
+    say(b": ");
+    number(n as u64);
+    say(b"\n");
+}
+
 fn show_make(data: u64) {
     say(b"make ");
     io::print_hex(STDOUT_FILENO, data, 12);
@@ -21,7 +27,7 @@ fn show_make(data: u64) {
             io::print_hex(STDOUT_FILENO, f, 16);
             say(b"\n");
         }
-        Making::TooLarge => say(b": 11\n"),
+        Making::Refused(n) => refusal(n),
     }
 }
 
@@ -45,22 +51,18 @@ fn show_read(bits: u64) {
     say(b"read ");
     io::print_hex(STDOUT_FILENO, bits, 16);
     match reader::read(bits) {
-        Reading::Word {
-            data,
-            flips,
-            pad_wrong,
-        } => {
+        Reading::Lawful(w) => {
             say(b": data ");
-            io::print_hex(STDOUT_FILENO, data, 12);
+            io::print_hex(STDOUT_FILENO, w.data, 12);
+            let flips = w.flips;
             show_flips(flips);
-            if pad_wrong {
+            if w.pad_wrong {
                 say(b", pad wrong\n");
             } else {
                 say(b", pad right\n");
             }
         }
-        Reading::NoWord => say(b": 13\n"),
-        Reading::RunBroken => say(b": 14\n"),
+        Reading::Refused(n) => refusal(n),
     }
 }
 

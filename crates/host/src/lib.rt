@@ -3,7 +3,7 @@ ghost use mathlib.Core.Path.{_≡_};
 ghost use Prim.Native.Nat.{_≤_};
 ghost use lib.ListN.{length, getD};
 ghost use Rattle.paper.specs.Answer.{numbered};
-ghost use Rattle.laws.specs.Lent.{lent};
+ghost use Rattle.laws.specs.Lent.{_to_};
 ghost use Rattle.reader.specs.Answers.{placesOf, flag, found};
 ghost use Rattle.maker.specs.Answers.{answer};
 ghost use Rattle.maker.specs.Lists.{MakesBytes};
@@ -98,7 +98,7 @@ pub extern "C" fn lks_frame_make(data: u64) -> u64
 
 #[no_mangle]
 pub extern "C" fn lks_frame_read(frame: u64, answer: &mut [u8]) -> u64
-    ensures { λ n. ⌜ ReadsOut frame (lent answer) n ⌝ }
+    ensures { λ n. ⌜ ReadsOut frame (answer .entry to answer .exit) n ⌝ }
 {
     if answer.len() < ANSWER_BYTES {
         return UNFIT;
@@ -114,14 +114,14 @@ pub extern "C" fn lks_frame_read(frame: u64, answer: &mut [u8]) -> u64
 
 #[no_mangle]
 pub extern "C" fn lks_frames_make(data: &[u8], frames: &mut [u8]) -> u64
-    ensures { λ n. ⌜ MakesBytes (now («data» .entry)) (lent frames) (numbered n) ⌝ }
+    ensures { λ n. ⌜ MakesBytes (now («data» .entry)) (frames .entry to frames .exit) (numbered n) ⌝ }
 {
     wide(paper::number_of(maker::make_bytes(data, frames)))
 }
 
 #[no_mangle]
 pub extern "C" fn lks_frames_read(frames: &[u8], data: &mut [u8], verdicts: &mut [u8]) -> u64
-    ensures { λ n. ⌜ ReadsBytes (now (frames .entry)) (lent «data») (lent verdicts) (numbered n) ⌝ }
+    ensures { λ n. ⌜ ReadsBytes (now (frames .entry)) («data» .entry to «data» .exit) (verdicts .entry to verdicts .exit) (numbered n) ⌝ }
 {
     wide(paper::number_of(reader::read_bytes(frames, data, verdicts)))
 }

@@ -1,7 +1,8 @@
 -- What a call leaves of outputs that it was lent.
 -- ┌─────────────────┬────────────────────────────────────────────────────────────────┐
 -- │ Lent            │ an output: as it came, and as the call leaves it               │
--- │ lent s          │ that of a parameter s                                          │
+-- │ a to b          │ that of a parameter, a at entry and b at exit                  │
+-- │ lent s          │ that of the parameter s                                        │
 -- │ ys over out     │ out with ys at its front, as far as it goes; past them it is   │
 -- │                 │ as it was                                                      │
 -- │ Each R xs ys    │ ys has one element for each of xs, and R allows it there       │
@@ -28,12 +29,16 @@ use denote.Triple.Both.{Both}
 use Rattle.paper.specs.Answer.{Answer, gives, refused, owed}
 
 infixr 60 _over_
+infixr 60 _to_
 pub record Lent : Type 0 where
   pub was : List ℕ
   pub is : List ℕ
 
+abbrev pub _to_ : RefT (List ℕ) → RefT (List ℕ) → Lent
+a to b = record { was = now a; is = now b }
+
 abbrev pub lent : Both (RefT (List ℕ)) (RefT (List ℕ)) → Lent
-lent s = record { was = now (s .entry); is = now (s .exit) }
+lent s = s .entry to s .exit
 
 unfoldable pub _over_ : List ℕ → List ℕ → List ℕ
 ys over [] = []

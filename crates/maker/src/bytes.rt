@@ -5,7 +5,7 @@ ghost use mathlib.Core.List.{[], _∷_};
 ghost use Prim.Native.Nat.{_≤_};
 ghost use lib.ListN.{length};
 ghost use Rattle.paper.specs.Answer.{listed};
-ghost use Rattle.laws.specs.Lent.{lent, Written};
+ghost use Rattle.laws.specs.Lent.{_to_, lent, Written};
 ghost use Rattle.octets.specs.Octets.{numbersOf};
 ghost use Rattle.frame.specs.Word.{FrameOf};
 ghost use Rattle.maker.specs.Lists.{anyTooLarge, inBytes, MakesBytes};
@@ -39,7 +39,7 @@ fn make_each(data: &[u8], frames: &mut [u8])
 
 // The frames of data words, at the front of a lent output.
 pub fn make_bytes(data: &[u8], frames: &mut [u8]) -> Listed
-    ensures { λ r. ⌜ MakesBytes (now («data» .entry)) (lent frames) (listed r) ⌝ }
+    ensures { λ r. ⌜ MakesBytes (now («data» .entry)) (frames .entry to frames .exit) (listed r) ⌝ }
 {
     if data.len() % 8 != 0 {
         return Listed::Refused(paper::UNFIT);

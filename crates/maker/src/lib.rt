@@ -1,7 +1,7 @@
 // The maker of frames: of one data word, of a list, of a list of bytes.
 ghost use mathlib.Core.Path.{_≡_};
 ghost use Rattle.paper.specs.Answer.{listed};
-ghost use Rattle.laws.specs.Lent.{lent};
+ghost use Rattle.laws.specs.Lent.{_to_};
 ghost use Rattle.maker.specs.Answers.{answer};
 ghost use Rattle.maker.specs.Makes.{Makes};
 ghost use Rattle.maker.specs.Lists.{MakesList};
@@ -31,7 +31,7 @@ pub fn make(data: u64) -> Making
 
 // The frames of a list of data words, at the front of a lent output.
 pub fn make_list(data: &[u64], frames: &mut [u64]) -> Listed
-    ensures { λ r. ⌜ MakesList (now («data» .entry)) (lent frames) (listed r) ⌝ }
+    ensures { λ r. ⌜ MakesList (now («data» .entry)) (frames .entry to frames .exit) (listed r) ⌝ }
 {
     if frames.len() < data.len() {
         return Listed::Refused(paper::UNFIT);

@@ -2,7 +2,7 @@
 ghost use Prim.Native.Nat.{_/_, _≤_};
 ghost use lib.ListN.{length};
 ghost use Rattle.paper.specs.Answer.{listed};
-ghost use Rattle.laws.specs.Lent.{lent, Written};
+ghost use Rattle.laws.specs.Lent.{_to_, lent, Written};
 ghost use Rattle.octets.specs.Octets.{numbersOf};
 ghost use Rattle.reader.specs.Answers.{verdict, dataIn};
 ghost use Rattle.reader.specs.Reads.{Reads};
@@ -42,7 +42,7 @@ fn read_all(frames: &[u8], data: &mut [u8], verdicts: &mut [u8])
 
 // The data and the verdict byte of each frame, at the front of two lent outputs.
 pub fn read_bytes(frames: &[u8], data: &mut [u8], verdicts: &mut [u8]) -> Listed
-    ensures { λ r. ⌜ ReadsBytes (now (frames .entry)) (lent «data») (lent verdicts) (listed r) ⌝ }
+    ensures { λ r. ⌜ ReadsBytes (now (frames .entry)) («data» .entry to «data» .exit) (verdicts .entry to verdicts .exit) (listed r) ⌝ }
 {
     if frames.len() % 8 != 0 {
         return Listed::Refused(paper::UNFIT);

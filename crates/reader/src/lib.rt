@@ -2,7 +2,7 @@
 ghost use mathlib.Core.Path.{_≡_};
 ghost use lib.ListN.{length};
 ghost use Rattle.paper.specs.Answer.{listed};
-ghost use Rattle.laws.specs.Lent.{lent};
+ghost use Rattle.laws.specs.Lent.{_to_};
 ghost use Rattle.reader.specs.Answers.{placesOf, answer, verdict, dataIn, padIn};
 ghost use Rattle.reader.specs.Reads.{Reads};
 ghost use Rattle.reader.specs.ByTables.{readBy};
@@ -103,7 +103,7 @@ pub fn pad_of(r: Reading) -> u8
 
 // The data and the verdict byte of each frame of a list, at the front of two lent outputs.
 pub fn read_list(frames: &[u64], data: &mut [u64], verdicts: &mut [u8]) -> Listed
-    ensures { λ r. ⌜ ReadsList (now (frames .entry)) (lent «data») (lent verdicts) (listed r) ⌝ }
+    ensures { λ r. ⌜ ReadsList (now (frames .entry)) («data» .entry to «data» .exit) (verdicts .entry to verdicts .exit) (listed r) ⌝ }
 {
     if data.len() < frames.len() {
         return Listed::Refused(paper::UNFIT);
@@ -123,7 +123,8 @@ pub fn read_list_pads(
     verdicts: &mut [u8],
     pads: &mut [u8],
 ) -> Listed
-    ensures { λ r. ⌜ ReadsPads (now (frames .entry)) (lent «data») (lent verdicts) (lent pads) (listed r) ⌝ }
+    ensures { λ r. ⌜ ReadsPads (now (frames .entry)) («data» .entry to «data» .exit) (verdicts .entry to verdicts .exit)
+        (pads .entry to pads .exit) (listed r) ⌝ }
 {
     if data.len() < frames.len() {
         return Listed::Refused(paper::UNFIT);

@@ -1,7 +1,5 @@
 -- What specs/Claims states of the states, the receiver and the round trip, whatever the rule by which the sender inverts.
 -- ┌─────────────────┬───────────────────────────────────────────────────────────────┐
--- │ accepted        │ where a call answered, the test of row 11 passed, and the     │
--- │                 │ value is what was owed                                        │
 -- │ taken           │ of a step that was taken, state and data were in range        │
 -- │ begins-in-range │ a fresh state is in range                                     │
 -- │ stays-in-range  │ what is sent is in range                                      │
@@ -13,7 +11,7 @@ use Prim.Native.Nat.{ℕ, _^_, _<_}
 use native.Mathlib.Omega.{arith}
 use Rattle.paper.specs.Numbers.{outside, unless}
 use Rattle.paper.specs.Answer.{gives, owed}
-use Rattle.paper.proofs.Answer.{gives-one, never-both}
+use Rattle.paper.proofs.Answer.{passed}
 use Rattle.laws.proofs.Truth.{two}
 use Rattle.bus.specs.declared.Bus.{Bus}
 use Rattle.bus.specs.declared.Driven.the-variants.{Now}
@@ -25,10 +23,6 @@ use Rattle.bus.proofs.Range.{InRange, in-range, is-in-range}
 use Rattle.bus.proofs.Inverse.{inverted-lt, twice}
 use Rattle.bus.proofs.Answers.{one-receive}
 
-pub accepted : (t : Bool) (b n : Bus) → gives n ≡ owed (unless outside t) b → (t ≡ true) × (n ≡ b)
-accepted true b n e = (refl, gives-one n b e)
-accepted false b n e = absurd (never-both n outside e)
-
 pub record Taken (b n : Bus) (y : ℕ) : Type 0 where
   pub from : InRange b
   pub carried : InRange (plain (b .width) y)
@@ -36,7 +30,7 @@ pub record Taken (b n : Bus) (y : ℕ) : Type 0 where
 
 pub taken : (b n : Bus) (y : ℕ) → Sends b y (Now n) → Taken b n y
 taken b n y s =
-    let e = accepted (inRange b && inRange (plain (b .width) y)) (next b y) n s in
+    let e = passed 10 (inRange b && inRange (plain (b .width) y)) (next b y) n s in
     let q = two (inRange b) _ (e .0) in
     record { from = in-range _ (q .0); carried = in-range _ (q .1); to = e .1 }
 
@@ -50,7 +44,7 @@ sent-undone true w y h = twice w y h
 sent-undone false w y h = refl
 
 pub begins-in-range : BeginsInRange
-begins-in-range w b s = let e = accepted (inRange (plain w 0)) (plain w 0) b s in rw (e .1) (e .0)
+begins-in-range w b s = let e = passed 10 (inRange (plain w 0)) (plain w 0) b s in rw (e .1) (e .0)
 
 pub stays-in-range : StaysInRange
 stays-in-range b n y s = let t = taken b n y s in rw (t .to) (is-in-range _ (sent-range (crowded b y) (b .width) y (t .carried)))

@@ -16,7 +16,7 @@ use lib.Dec.{eqb}
 use lib.ListN.{length}
 use denote.Ref.{RefT, now, ptr}
 use Rattle.paper.specs.Answer.{Answer, gives, refused}
-use Rattle.paper.proofs.Answer.{gives-one, refused-one, never-both}
+use Rattle.paper.proofs.Answer.{either, known-by}
 use Rattle.dap.specs.declared.Made.{Made}
 use Rattle.dap.specs.declared.Made.the-variants.{Parity, Refused as Unmade}
 use Rattle.dap.specs.declared.Damage.{Damage}
@@ -47,10 +47,11 @@ pub few : (a b : List ℕ) (p : ℕ) → Accepted a b p → diffs a b ≤ 1 → 
 few a b p k h = past a b p k ∙ simp (le-ltb 1 (diffs a b) h)
 
 one-made : (r s : Made) → made r ≡ made s → r ≡ s
-one-made (Parity a) (Parity b) e = ap Parity (gives-one a b e)
-one-made (Parity a) (Unmade n) e = absurd (never-both a n e)
-one-made (Unmade n) (Parity b) e = absurd (never-both b n (sym e))
-one-made (Unmade m) (Unmade n) e = ap Unmade (refused-one m n e)
+one-made = known-by made (either Parity Unmade) back
+  where
+    back : (r : Made) → either Parity Unmade (made r) ≡ r
+    back (Parity a) = refl
+    back (Unmade n) = refl
 
 pub one-make : OneMake
 one-make d o₁ o₂ r s x₁ x₂ y₁ y₂ p q =
@@ -60,11 +61,12 @@ one-make d o₁ o₂ r s x₁ x₂ y₁ y₂ p q =
       p .second ∙ ap (λ (t : Answer ℕ). copied t d o₂) e ∙ sym (q .second),
     )
 
-one-judged : (v w : Judged) → judged v ≡ judged w → v ≡ w
-one-judged (Found d) (Found e) q = ap Found (gives-one d e q)
-one-judged (Found d) (Unjudged n) q = absurd (never-both d n q)
-one-judged (Unjudged n) (Found d) q = absurd (never-both d n (sym q))
-one-judged (Unjudged m) (Unjudged n) q = ap Unjudged (refused-one m n q)
+one-judged : (r s : Judged) → judged r ≡ judged s → r ≡ s
+one-judged = known-by judged (either Found Unjudged) back
+  where
+    back : (r : Judged) → either Found Unjudged (judged r) ≡ r
+    back (Found a) = refl
+    back (Unjudged n) = refl
 
 pub one-verdict : OneVerdict
 one-verdict a b p v w x y = one-judged v w (x ∙ sym y)

@@ -18,7 +18,7 @@ use lib.Seq.{take-at, getD-append-add, getD-drop}
 use denote.Ref.{now}
 use Rattle.paper.specs.Numbers.{unless}
 use Rattle.paper.specs.Answer.{gives, owed}
-use Rattle.paper.proofs.Answer.{gives-one, never-both}
+use Rattle.paper.proofs.Answer.{given}
 use Rattle.laws.proofs.Truth.{and-l, and-r, two}
 use Rattle.dap.specs.declared.Made.the-variants.{Parity, Refused}
 use Rattle.dap.specs.declared.Damage.{Damage}
@@ -30,10 +30,6 @@ use Rattle.dap.proofs.Parities.{diffs-self, diffs-sym, diffs-flip, unli
 use Rattle.dap.proofs.Answers.{few}
 
 -- a value is owed only where nothing is refused
-given : {A : Type 0} (n : ℕ) (a b : A) → owed n a ≡ gives b → (n ≡ 0) × (a ≡ b)
-given zero a b e = (refl, gives-one a b e)
-given (suc n) a b e = absurd (never-both b (suc n) (sym e))
-
 passed : (n : ℕ) (t : Bool) → unless (suc n) t ≡ 0 → t ≡ true
 passed n true e = refl
 passed n false e = absurd (omega arith)

@@ -18,7 +18,7 @@ use borrow.Author.Tests.{eqb-true, eqb-false, ltb-true, ltb-false}
 use lib.Dec.{ltb, eqb, lit<}
 use Rattle.paper.specs.Numbers.{noBlock, eighth}
 use Rattle.paper.specs.Answer.{refused}
-use Rattle.paper.proofs.Answer.{gives-one, refused-one, never-both}
+use Rattle.paper.proofs.Answer.{either, known-by}
 use Rattle.laws.proofs.Xor.{bit-lt}
 use Rattle.hier.specs.declared.Coded.{Coded}
 use Rattle.hier.specs.declared.Coded.the-variants.{Block, Refused as Uncoded}
@@ -116,11 +116,12 @@ one-read b (Word v) (Unread n) x y = absurd (read-or-refused x y)
 one-read b (Unread n) (Word w) x y = absurd (read-or-refused y x)
 one-read b (Unread m) (Unread n) x y = ap Unread (same-refusal x y)
 
-pub one-make : OneMake
-one-make d r s p q = same r s (p ∙ sym q)
+one-coded : (r s : Coded) → coded r ≡ coded s → r ≡ s
+one-coded = known-by coded (either Block Uncoded) back
   where
-    same : (r s : Coded) → coded r ≡ coded s → r ≡ s
-    same (Block a) (Block b) e = ap Block (gives-one a b e)
-    same (Block a) (Uncoded n) e = absurd (never-both a n e)
-    same (Uncoded n) (Block b) e = absurd (never-both b n (sym e))
-    same (Uncoded m) (Uncoded n) e = ap Uncoded (refused-one m n e)
+    back : (r : Coded) → either Block Uncoded (coded r) ≡ r
+    back (Block a) = refl
+    back (Uncoded n) = refl
+
+pub one-make : OneMake
+one-make d r s p q = one-coded r s (p ∙ sym q)

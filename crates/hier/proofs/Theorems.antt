@@ -15,18 +15,13 @@ use Rattle.block.specs.Symbols.{gap}
 use Rattle.block.specs.Blocks.{symbol, codeOf, flips, Near}
 use Rattle.paper.specs.Numbers.{outside, unless}
 use Rattle.paper.specs.Answer.{gives, owed}
-use Rattle.paper.proofs.Answer.{gives-one, never-both}
+use Rattle.paper.proofs.Answer.{passed}
 use Rattle.hier.specs.Claims.{Mends, RoundTrip}
 use Rattle.hier.proofs.Answers.{one-read}
 
--- where `make` answered, the data was in range, and the block is its code
-accepted : (t : Bool) (l k : ℕ) → gives l ≡ owed (unless outside t) k → (t ≡ true) × (l ≡ k)
-accepted true l k e = (refl, gives-one l k e)
-accepted false l k e = absurd (never-both l outside e)
-
 pub mends : Mends
 mends d l b r m n x =
-    let a = accepted (ltb d 128) l (codeOf d) m in
+    let a = passed 10 (ltb d 128) (codeOf d) l m in
     one-read b r (Word (record { «data» = d; flips = flips b l })) x
     (record {
       below = ltb-true d 128 (a .0);

@@ -4,7 +4,7 @@
 -- │ in-pieces       │                                                              │
 -- │ each-frame-once │                                                              │
 -- └─────────────────┴──────────────────────────────────────────────────────────────┘
-use mathlib.Core.Path.{_≡_, sym, ap, ap₂, _∙_, subst}
+use mathlib.Core.Path.{_≡_, refl, sym, ap, ap₂, _∙_, subst}
 use mathlib.Core.List.{List, _++_, append-nil}
 use mathlib.Core.Logic.{inl, inr}
 use Prim.Native.Nat.{ℕ, zero, suc, _%_}
@@ -12,7 +12,7 @@ use native.Mathlib.Omega.{arith}
 use lib.ListN.{length, length-append}
 use Rattle.paper.specs.Numbers.{unfit}
 use Rattle.paper.specs.Answer.{gives, owed}
-use Rattle.paper.proofs.Answer.{gives-one, refused-one, never-both}
+use Rattle.paper.proofs.Answer.{either, known-by, gives-one, never-both}
 use Rattle.laws.specs.Bits.{joining}
 use Rattle.tally.specs.Ranges.{framesIn}
 use Rattle.tally.specs.Counts.{fresh}
@@ -30,10 +30,11 @@ use Rattle.lane.specs.declared.Counted.the-variants.{Next, Refused}
 use Rattle.lane.proofs.Frames.{one-seen, as-many, all-verdicts, seen-join}
 
 answer-one : (r s : Counted) → answer r ≡ answer s → r ≡ s
-answer-one (Next u) (Next w) e = ap Next (gives-one u w e)
-answer-one (Next u) (Refused n) e = absurd (never-both u n e)
-answer-one (Refused n) (Next u) e = absurd (never-both u n (sym e))
-answer-one (Refused m) (Refused n) e = ap Refused (refused-one m n e)
+answer-one = known-by answer (either Next Refused) back
+  where
+    back : (r : Counted) → either Next Refused (answer r) ≡ r
+    back (Next a) = refl
+    back (Refused n) = refl
 
 pub one-count : OneCount
 one-count t bs r s o (inl p) (inl q) = answer-one r s (p .1 ∙ sym (q .1))
@@ -53,13 +54,9 @@ record Onward (t : Tally) (bs : List ℕ) (u : Totals) : Type 0 where
   seen : Seen bs vs ps
   counted : u ≡ totalsOf (after t vs ps) (length bs % 8)
 
-given : (n : ℕ) (u w : Totals) → gives u ≡ owed n w → u ≡ w
-given zero u w e = gives-one u w e
-given (suc n) u w e = absurd (never-both u (suc n) e)
-
 piece : (t : Tally) (bs : List ℕ) (u : Totals) → CountsPiece t bs (gives u) → Onward t bs u
 piece t bs u (inl p) = absurd (never-both u unfit (p .1))
-piece t bs u (inr (h, c)) = record { vs = c .vs; ps = c .ps; seen = c .seen; counted = given (refusal t (c .vs) (c .ps)) u _ (c .owes) }
+piece t bs u (inr (h, c)) = record { vs = c .vs; ps = c .ps; seen = c .seen; counted = sym (given (refusal t (c .vs) (c .ps)) _ u (sym (c .owes)) .1) }
 
 left : (a b : List ℕ) → length a % 8 ≡ 0 → length b % 8 ≡ length (a ++ b) % 8
 left a b h = omega (arith, length-append a b)

@@ -9,7 +9,7 @@ use mathlib.Core.List.{[], _∷_}
 use Prim.Native.Nat.{ℕ}
 use lib.ListN.{getD}
 use Rattle.paper.specs.Answer.{Answer, gives, refused}
-use Rattle.paper.proofs.Answer.{gives-one, refused-one, never-both}
+use Rattle.paper.proofs.Answer.{either, known-by}
 use Rattle.laws.proofs.Truth.{is-true}
 use Rattle.laws.proofs.Writing.{one-call}
 use Rattle.octets.specs.Octets.{numbersOf}
@@ -29,11 +29,12 @@ one-made-answer d (gives f) (refused n) p q = absurd (is-true (sym (p .0) ∙ q 
 one-made-answer d (refused m) (gives g) p q = absurd (is-true (sym (q .0) ∙ p .0))
 one-made-answer d (refused m) (refused n) p q = ap refused (p .1 ∙ sym (q .1))
 
-answer-one : (m n : Making) → answer m ≡ answer n → m ≡ n
-answer-one (Frame f) (Frame g) e = ap Frame (gives-one f g e)
-answer-one (Frame f) (Refused n) e = absurd (never-both f n e)
-answer-one (Refused m) (Frame g) e = absurd (never-both g m (sym e))
-answer-one (Refused m) (Refused n) e = ap Refused (refused-one m n e)
+answer-one : (r s : Making) → answer r ≡ answer s → r ≡ s
+answer-one = known-by answer (either Frame Refused) back
+  where
+    back : (r : Making) → either Frame Refused (answer r) ≡ r
+    back (Frame a) = refl
+    back (Refused n) = refl
 
 pub one-making : OneMaking
 one-making d m n p q = answer-one m n (one-made-answer d (answer m) (answer n) p q)

@@ -11,7 +11,7 @@ use lib.ListN.{length, getD, take, drop, take-append-drop, length-append, length
 use lib.Seq.{getD-append-add, getD-take, getD-drop, length-take-le, drop-drop}
 use Rattle.paper.specs.Numbers.{outside, unfit, unless}
 use Rattle.paper.specs.Answer.{Answer, gives, owed, done, listed}
-use Rattle.paper.proofs.Answer.{gives-one, refused-one, never-both, listed-one}
+use Rattle.paper.proofs.Answer.{either, known-by, gives-one, never-both, listed-one}
 use Rattle.laws.specs.Lent.{Left}
 use Rattle.laws.proofs.Writing.{one-left}
 use Rattle.octets.specs.Octets.{joined, inBytes}
@@ -94,14 +94,15 @@ others-stay o₀ o at n x p =
     let h = is-there at n (length o₀) (q .0) in
     (ap length (p .bytes) ∙ placed-length o₀ at n x (h .2), λ i w. ap (λ (l : List ℕ). getD l i 0) (p .bytes) ∙ other o₀ at n x (h .2) i w)
 
-pub one-got : OneGot
-one-got bs at n r s g h = known r s (g ∙ sym h)
+got-one : (r s : Got) → answer r ≡ answer s → r ≡ s
+got-one = known-by answer (either Number Refused) back
   where
-    known : (r s : Got) → answer r ≡ answer s → r ≡ s
-    known (Number x) (Number y) e = ap Number (gives-one x y e)
-    known (Number x) (Refused m) e = absurd (never-both x m e)
-    known (Refused m) (Number x) e = absurd (never-both x m (sym e))
-    known (Refused m) (Refused k) e = ap Refused (refused-one m k e)
+    back : (r : Got) → either Number Refused (answer r) ≡ r
+    back (Number a) = refl
+    back (Refused n) = refl
+
+pub one-got : OneGot
+one-got bs at n r s g h = got-one r s (g ∙ sym h)
 
 pub one-put : OnePut
 one-put o₀ o p at n x r s a b =

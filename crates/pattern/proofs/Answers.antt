@@ -20,11 +20,12 @@ use Rattle.paper.specs.Numbers.{unfit, outside, pastCount, allZero, mostBytes, 
 use Rattle.sequence.specs.Counting.{zeroFilled}
 use Rattle.sequence.specs.Patterns.{secondTap}
 use Rattle.paper.specs.Answer.{gives, refused, owed}
+use Rattle.paper.proofs.Answer.{given}
 use Rattle.pattern.specs.Counting.{countOf, inRange, fedPiece}
 use Rattle.pattern.specs.Calls.{feedRefusal, feedAnswer}
 use Rattle.pattern.specs.Parts.{compared, pieceRefusal}
 use Rattle.pattern.specs.declared.counter.Counter.{Counter}
-use Rattle.pattern.proofs.Tests.{past, refused-alike, passed, refuses, given}
+use Rattle.pattern.proofs.Tests.{past, refused-alike, passed, refuses}
 use Rattle.sequence.proofs.Digits.{length-bits, bits-bits}
 use Rattle.sequence.proofs.Taps.{taps}
 use Rattle.sequence.proofs.Fed.{bits-fed}

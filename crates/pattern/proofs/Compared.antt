@@ -6,10 +6,11 @@ use mathlib.Core.Path.{sym, ap, subst}
 use mathlib.Core.List.{_∷_}
 use native.Mathlib.Omega.{arith}
 use lib.Seq.{drop-nil}
+use Rattle.laws.specs.Bits.{joining}
 use Rattle.sequence.specs.Bits.{bitsOf}
 use Rattle.sequence.specs.Claims.{errorsFrom}
 use Rattle.pattern.specs.Counting.{countOf, fresh}
-use Rattle.pattern.specs.Claims.{joining, AllFed, CountsErrors}
+use Rattle.pattern.specs.Claims.{AllFed, CountsErrors}
 use Rattle.pattern.specs.declared.counter.Counter.{Counter}
 use Rattle.sequence.proofs.Digits.{bits-bits}
 use Rattle.sequence.proofs.Errors.{Right, right}

@@ -18,12 +18,13 @@ use Rattle.sequence.specs.Sequence.{onward, nextBits, bytes}
 use Rattle.paper.specs.Numbers.{mostBytes, unfit, outside, allZero}
 use Rattle.sequence.specs.Patterns.{pattern, secondTap}
 use Rattle.paper.specs.Answer.{gives}
+use Rattle.paper.proofs.Answer.{given}
 use Rattle.pattern.specs.Generation.{registered, advanced}
 use Rattle.pattern.specs.Calls.{fillRefusal, fillAnswer}
 use Rattle.pattern.specs.Claims.{Continues, FillsOn, FillsInPieces}
 use Rattle.pattern.specs.declared.generator.Generator.{Generator}
 use Rattle.laws.proofs.Truth.{true-is}
-use Rattle.pattern.proofs.Tests.{past, given}
+use Rattle.pattern.proofs.Tests.{past}
 use Rattle.sequence.proofs.Taps.{taps}
 use Rattle.pattern.proofs.Ranges.{registered-pattern, registered-lt}
 use Rattle.sequence.proofs.Steps.{onward-add, onward-lt}

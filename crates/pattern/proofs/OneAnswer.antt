@@ -2,10 +2,11 @@
 -- ┌──────────────────────────────────────────────────────┬─────────────────────────┐
 -- │ one-start, one-fill, one-fresh, one-feed, one-report │ so for each call        │
 -- └──────────────────────────────────────────────────────┴─────────────────────────┘
-use mathlib.Core.Path.{_≡_, sym, ap, _∙_}
+use mathlib.Core.Path.{_≡_, refl, sym, ap, _∙_}
+use Prim.Native.Nat.{ℕ}
 use Rattle.paper.specs.Answer.{Answer}
-use Rattle.paper.proofs.Answer.{gives-one, refused-one, never-both}
-use Rattle.pattern.specs.Reporting.{Figures, measured, ceiling}
+use Rattle.paper.proofs.Answer.{either, known-by}
+use Rattle.pattern.specs.Reporting.{Rate, measured, ceiling}
 use Rattle.pattern.specs.Answers.{started, filled, opened, fed, reported}
 use Rattle.pattern.specs.Calls.{fillLeaves}
 use Rattle.pattern.specs.Claims.{OneStart, OneFill, OneFresh, OneFeed, OneReport}
@@ -21,50 +22,46 @@ use Rattle.pattern.specs.declared.counter.Fed.the-variants.{Counted, Ref
 use Rattle.pattern.specs.declared.report.Report.{Report}
 use Rattle.pattern.specs.declared.report.Report.the-variants.{Measured, Ceiling, Refused as Unreported}
 
-same-started : (s t : Started) → started s ≡ started t → s ≡ t
-same-started (Ready g) (Ready h) e = ap Ready (gives-one g h e)
-same-started (Ready g) (Unstarted n) e = absurd (never-both g n e)
-same-started (Unstarted n) (Ready g) e = absurd (never-both g n (sym e))
-same-started (Unstarted m) (Unstarted n) e = ap Unstarted (refused-one m n e)
+same-started : (r s : Started) → started r ≡ started s → r ≡ s
+same-started = known-by started (either Ready Unstarted) back
+  where
+    back : (r : Started) → either Ready Unstarted (started r) ≡ r
+    back (Ready a) = refl
+    back (Unstarted n) = refl
 
-same-filled : (s t : Filled) → filled s ≡ filled t → s ≡ t
-same-filled (Advanced g) (Advanced h) e = ap Advanced (gives-one g h e)
-same-filled (Advanced g) (Unfilled n) e = absurd (never-both g n e)
-same-filled (Unfilled n) (Advanced g) e = absurd (never-both g n (sym e))
-same-filled (Unfilled m) (Unfilled n) e = ap Unfilled (refused-one m n e)
+same-filled : (r s : Filled) → filled r ≡ filled s → r ≡ s
+same-filled = known-by filled (either Advanced Unfilled) back
+  where
+    back : (r : Filled) → either Advanced Unfilled (filled r) ≡ r
+    back (Advanced a) = refl
+    back (Unfilled n) = refl
 
-same-opened : (s t : Opened) → opened s ≡ opened t → s ≡ t
-same-opened (Fresh c) (Fresh d) e = ap Fresh (gives-one c d e)
-same-opened (Fresh c) (Unopened n) e = absurd (never-both c n e)
-same-opened (Unopened n) (Fresh c) e = absurd (never-both c n (sym e))
-same-opened (Unopened m) (Unopened n) e = ap Unopened (refused-one m n e)
+same-opened : (r s : Opened) → opened r ≡ opened s → r ≡ s
+same-opened = known-by opened (either Fresh Unopened) back
+  where
+    back : (r : Opened) → either Fresh Unopened (opened r) ≡ r
+    back (Fresh a) = refl
+    back (Unopened n) = refl
 
-same-fed : (s t : Fed) → fed s ≡ fed t → s ≡ t
-same-fed (Counted c) (Counted d) e = ap Counted (gives-one c d e)
-same-fed (Counted c) (Unfed n) e = absurd (never-both c n e)
-same-fed (Unfed n) (Counted c) e = absurd (never-both c n (sym e))
-same-fed (Unfed m) (Unfed n) e = ap Unfed (refused-one m n e)
+same-fed : (r s : Fed) → fed r ≡ fed s → r ≡ s
+same-fed = known-by fed (either Counted Unfed) back
+  where
+    back : (r : Fed) → either Counted Unfed (fed r) ≡ r
+    back (Counted a) = refl
+    back (Unfed n) = refl
 
-same-reported : (s t : Report) → reported s ≡ reported t → s ≡ t
-same-reported (Measured b e x) (Measured b′ e′ x′) q =
-    let f = gives-one _ _ q in
-    let B : b ≡ b′ = ap (λ (y : Figures). y .bits) f in
-    let E : e ≡ e′ = ap (λ (y : Figures). y .errors) f in
-    let R : measured x ≡ measured x′ = ap (λ (y : Figures). y .rate) f in
-    cc
-same-reported (Measured b e x) (Ceiling b′ e′ x′) q = let R : measured x ≡ ceiling x′ = ap (λ (y : Figures). y .rate) (gives-one _ _ q) in cc
-same-reported (Measured b e x) (Unreported n) q = cc
-same-reported (Ceiling b e x) (Measured b′ e′ x′) q = let R : ceiling x ≡ measured x′ = ap (λ (y : Figures). y .rate) (gives-one _ _ q) in cc
-same-reported (Ceiling b e x) (Ceiling b′ e′ x′) q =
-    let f = gives-one _ _ q in
-    let B : b ≡ b′ = ap (λ (y : Figures). y .bits) f in
-    let E : e ≡ e′ = ap (λ (y : Figures). y .errors) f in
-    let R : ceiling x ≡ ceiling x′ = ap (λ (y : Figures). y .rate) f in
-    cc
-same-reported (Ceiling b e x) (Unreported n) q = cc
-same-reported (Unreported n) (Measured b e x) q = cc
-same-reported (Unreported n) (Ceiling b e x) q = cc
-same-reported (Unreported m) (Unreported n) q = cc
+rated : ℕ → ℕ → Rate → Report
+rated b e (measured x) = Measured b e x
+rated b e (ceiling x) = Ceiling b e x
+
+same-reported : (r s : Report) → reported r ≡ reported s → r ≡ s
+unfolding rated
+same-reported = known-by reported (either (λ f. rated (f .bits) (f .errors) (f .rate)) Unreported) back
+  where
+    back : (r : Report) → either (λ f. rated (f .bits) (f .errors) (f .rate)) Unreported (reported r) ≡ r
+    back (Measured b e x) = refl
+    back (Ceiling b e x) = refl
+    back (Unreported n) = refl
 
 pub one-start : OneStart
 one-start p r s t x y = same-started s t (x ∙ sym y)

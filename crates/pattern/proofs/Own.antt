@@ -13,6 +13,7 @@ use lib.Dec.{T}
 use borrow.Author.Tests.{eqb-true}
 use lib.ListN.{length, getD, drop, length-drop}
 use lib.Seq.{getD-drop}
+use Rattle.laws.specs.Bits.{joining}
 use Rattle.sequence.specs.Bits.{bitsOf}
 use Rattle.sequence.specs.Sequence.{onward, nextBits}
 use Rattle.paper.specs.Numbers.{mostCounted}
@@ -20,7 +21,7 @@ use Rattle.sequence.specs.Counting.{Count, nothingFed, fedBits, zeroFilled}
 use Rattle.sequence.specs.Patterns.{pattern, secondTap}
 use Rattle.pattern.specs.Generation.{registered}
 use Rattle.pattern.specs.Counting.{fedOn, fresh, fedPiece}
-use Rattle.pattern.specs.Claims.{joining, OwnOutput}
+use Rattle.pattern.specs.Claims.{OwnOutput}
 use Rattle.pattern.specs.declared.counter.Counter.{Counter}
 use Rattle.sequence.proofs.Zero.{never-both, zero-at-end}
 use Rattle.pattern.proofs.Ranges.{registered-pattern, registered-lt}

@@ -17,12 +17,13 @@ use native.Mathlib.Omega.{arith}
 use lib.Dec.{eqb}
 use borrow.Author.Tests.{eq-eqb}
 use lib.ListN.{length, length-append}
+use Rattle.laws.specs.Bits.{joining}
 use Rattle.sequence.specs.Bits.{bitsOf}
 use Rattle.paper.specs.Numbers.{mostBytes, mostCounted}
 use Rattle.sequence.specs.Counting.{fedBits, zeroFilled}
 use Rattle.sequence.specs.Patterns.{secondTap}
 use Rattle.pattern.specs.Counting.{countOf, holding, fedOn, inRange, fedPiece}
-use Rattle.pattern.specs.Claims.{joining, AllFed, AllShort, FeedsOn, FeedsInPieces}
+use Rattle.pattern.specs.Claims.{AllFed, AllShort, FeedsOn, FeedsInPieces}
 use Rattle.pattern.specs.declared.counter.Counter.{Counter}
 use Rattle.laws.proofs.Truth.{is-true, neither}
 use Rattle.sequence.proofs.Zero.{zero-append, zero-at-end}

@@ -12,7 +12,6 @@
 -- │ passed        │ where none does, what the three tests said                  │
 -- │ refuses       │ what is owed where something refuses                        │
 -- │ answers       │ what is owed where nothing does                             │
--- │ given         │ a value is owed only where nothing refuses                  │
 -- └───────────────┴─────────────────────────────────────────────────────────────┘
 use mathlib.Core.Path.{_≡_, refl, sym, ap, _∙_}
 use mathlib.Core.Bool.{Bool, true, false, cond, not, _&&_, _||_}
@@ -21,7 +20,6 @@ use lib.Dec.{ltb}
 use borrow.Author.Tests.{lt-ltb, le-ltb, ltb-true, ltb-false}
 use native.Mathlib.Omega.{arith}
 use Rattle.paper.specs.Answer.{gives, refused, owed}
-use Rattle.paper.proofs.Answer.{gives-one, never-both}
 use Rattle.laws.proofs.Truth.{is-true, two}
 
 pub ltb-same : (m n p q : ℕ) → (m < n → p < q) → (n ≤ m → q ≤ p) → ltb m n ≡ ltb p q
@@ -92,6 +90,3 @@ pub answers : {A : Type 0} (m n : ℕ) (a : A) → m ≡ n → m ≡ 0 → gives
 answers m zero a e h = refl
 answers m (suc n) a e h = absurd (omega arith)
 
-pub given : {A : Type 0} (n : ℕ) (a b : A) → owed n a ≡ gives b → (n ≡ 0) × (a ≡ b)
-given zero a b e = (refl, gives-one a b e)
-given (suc n) a b e = absurd (never-both b (suc n) (sym e))

@@ -10,7 +10,6 @@
 -- │               │ bits, the oldest highest                                       │
 -- │ FillsOn       │ a generator that came back fills on                            │
 -- │ FillsInPieces │ two buffers filled one after the other are one filled at once  │
--- │ joining l     │ the pieces of l, joined                                        │
 -- │ AllFed c l d  │ the pieces of l take c to d, fed one after another, all        │
 -- │               │ accepted                                                       │
 -- │ AllShort l    │ each piece of l is short enough to be fed                      │
@@ -36,6 +35,7 @@ use Rattle.sequence.specs.Sequence.{Follows, bytes}
 use Rattle.sequence.specs.Claims.{Begins, errorsFrom}
 use Rattle.paper.specs.Numbers.{mostBytes, mostCounted}
 use Rattle.paper.specs.Answer.{gives}
+use Rattle.laws.specs.Bits.{joining}
 use Rattle.sequence.specs.Patterns.{secondTap}
 use Rattle.pattern.specs.Generation.{registered, advanced}
 use Rattle.pattern.specs.Counting.{inRange, fresh}
@@ -83,10 +83,6 @@ abbrev pub FillsInPieces : Type 0
 FillsInPieces =
     (g h k : Generator) (a b x y : List ℕ) → Fills g a (Advanced h) x → Fills h b (Advanced k) y
     → length (a ++ b) ≤ mostBytes → Fills g (a ++ b) (Advanced k) (x ++ y)
-
-unfoldable pub joining : List (List ℕ) → List ℕ
-joining [] = []
-joining (piece ∷ pieces) = piece ++ joining pieces
 
 pub data AllFed : Counter → List (List ℕ) → Counter → Type 0 where
   none : {c : Counter} → AllFed c [] c

@@ -4,7 +4,8 @@
 -- │ read-received   │ a frame of remainder 0                                       │
 -- │ read-mended     │ any frame, its sums known                                    │
 -- │ by-the-tables   │ the claim of specs/Claims.antt by this name                  │
--- │ answers-by      │ an answer to each frame of a list                            │
+-- │ shown-by-tables │ outputs that show frames read so show an answer to each      │
+-- │ shown-of-bytes  │ the same of the frames of bytes                              │
 -- └─────────────────┴──────────────────────────────────────────────────────────────┘
 use mathlib.Core.Path.{_≡_, refl, sym, ap, ap₂, _∙_, subst}
 use mathlib.Core.Bool.{Bool, true, false, cond}
@@ -20,8 +21,11 @@ use lib.Dec.{eqb, lit<}
 use lib.ListN.{length, getD}
 use lib.Pow.{pow-pos}
 use Rattle.paper.specs.Answer.{Answer, gives, refused}
-use Rattle.laws.specs.Lent.{Each}
+use Rattle.laws.specs.Bits.{Octets}
+use Rattle.laws.specs.Lent.{Output, AllShow, Written}
 use Rattle.laws.proofs.Writing.{each-made}
+use Rattle.octets.specs.Octets.{numbersOf}
+use Rattle.octets.proofs.Joined.{numbers-lt}
 use Rattle.poly.specs.Poly.{rem}
 use Rattle.poly.proofs.Division.{rem-lt, is-divisible}
 use Rattle.bch.specs.Code.{position, differences}
@@ -134,5 +138,16 @@ pub by-the-tables : ByTheTables
 unfolding readBy
 by-the-tables c b m t f h = subst (λ (x : ℕ). Reads f (saidBy f (mendBy c x f))) (sym (sums-by b t f h)) (read-mended f h c m)
 
-pub answers-by : (c b : List ℕ) → Mends c → ByteSums b → (fs : List ℕ) → Numbers fs → Each Reads fs (map (readBy c b) fs)
-answers-by c b m t fs n = each-made (readBy c b) fs 0 (λ i h. by-the-tables c b m t (getD fs i 0) (n i h))
+module _ {c b : List ℕ} (m : Mends c) (t : ByteSums b) where
+  -- outputs that show the frames of a list, read by the tables, show an answer to each
+  pub shown-by-tables : (fs : List ℕ) → Numbers fs → (os : List (Output (Answer Found))) → AllShow (map (readBy c b) fs) os → Written Reads fs os
+  shown-by-tables fs n os s =
+      record {
+        ys = map (readBy c b) fs;
+        each = each-made (readBy c b) fs 0 (λ i h. by-the-tables c b m t (getD fs i 0) (n i h));
+        all = s;
+      }
+
+  pub shown-of-bytes : (bs : List ℕ) → Octets bs → (os : List (Output (Answer Found)))
+      → AllShow (map (readBy c b) (numbersOf bs)) os → Written Reads (numbersOf bs) os
+  shown-of-bytes bs o os s = shown-by-tables (numbersOf bs) (numbers-lt bs o) os s

@@ -5,12 +5,12 @@
 -- └───────────────┴────────────────────────────────────────────────────────────────┘
 use mathlib.Core.Path.{_≡_, refl, sym, ap, ap₂, _∙_}
 use mathlib.Core.Bool.{Bool, true, false}
-use mathlib.Core.List.{List}
+use mathlib.Core.List.{List, [], _∷_}
 use Prim.Native.Nat.{ℕ, _<_}
-use native.Mathlib.Omega.{arith}
+use lib.Dec.{eqb}
 use lib.ListN.{length, getD}
 use Rattle.paper.specs.Answer.{Answer}
-use Rattle.paper.proofs.Answer.{gives-one, refused-one, never-both}
+use Rattle.paper.proofs.Answer.{either, known-by}
 use Rattle.laws.proofs.Writing.{one-call}
 use Rattle.octets.specs.Octets.{numbersOf}
 use Rattle.octets.proofs.Joined.{numbers-lt}
@@ -25,36 +25,34 @@ use Rattle.reader.specs.declared.Reading.{Reading}
 use Rattle.reader.specs.declared.Reading.the-variants.{Lawful, Refused}
 use Rattle.reader.proofs.Demands.{one-answer}
 
-places-one : (p q : Flips) → placesOf p ≡ placesOf q → p ≡ q
-places-one Nowhere Nowhere e = refl
-places-one Nowhere (One a) e = cc
-places-one Nowhere (Two a b) e = cc
-places-one (One a) Nowhere e = cc
-places-one (One a) (One b) e = cc
-places-one (One a) (Two b c) e = cc
-places-one (Two a b) Nowhere e = cc
-places-one (Two a b) (One c) e = cc
-places-one (Two a b) (Two c d) e = cc
+-- a word by what it says
+flipsAt : List ℕ → Flips
+flipsAt [] = Nowhere
+flipsAt (a ∷ []) = One a
+flipsAt (a ∷ b ∷ l) = Two a b
 
-flag-one : (a b : Bool) → flag a ≡ flag b → a ≡ b
-flag-one true true e = refl
-flag-one true false e = absurd (omega arith)
-flag-one false true e = absurd (omega arith)
-flag-one false false e = refl
+saying : Found → Word
+saying r = record { «data» = r .«data»; flips = flipsAt (r .places); «pad_wrong» = eqb (r .pad) 1 }
 
-word-one : (v w : Word) → found v ≡ found w → v ≡ w
-word-one v w e = λ i.
-    record {
-      «data» = ap (λ (x : Found). x .«data») e i;
-      flips = places-one (v .flips) (w .flips) (ap (λ (x : Found). x .places) e) i;
-      «pad_wrong» = flag-one (v .«pad_wrong») (w .«pad_wrong») (ap (λ (x : Found). x .pad) e) i;
-    }
+said-back : (w : Word) → saying (found w) ≡ w
+unfolding saying flipsAt
+said-back w = λ i. record { «data» = w .«data»; flips = flips (w .flips) i; «pad_wrong» = flags (w .«pad_wrong») i }
+  where
+    flips : (p : Flips) → flipsAt (placesOf p) ≡ p
+    flips Nowhere = refl
+    flips (One a) = refl
+    flips (Two a b) = refl
+
+    flags : (b : Bool) → eqb (flag b) 1 ≡ b
+    flags true = refl
+    flags false = refl
 
 pub answer-one : (r s : Reading) → answer r ≡ answer s → r ≡ s
-answer-one (Lawful v) (Lawful w) e = ap Lawful (word-one v w (gives-one (found v) (found w) e))
-answer-one (Lawful v) (Refused n) e = absurd (never-both (found v) n e)
-answer-one (Refused m) (Lawful w) e = absurd (never-both (found w) m (sym e))
-answer-one (Refused m) (Refused n) e = ap Refused (refused-one m n e)
+answer-one = known-by answer (either (λ r. Lawful (saying r)) Refused) back
+  where
+    back : (r : Reading) → either (λ r. Lawful (saying r)) Refused (answer r) ≡ r
+    back (Lawful w) = ap Lawful (said-back w)
+    back (Refused n) = refl
 
 pub one-reading : OneReading
 one-reading f h r s p q = answer-one r s (one-answer f h (answer r) (answer s) p q)

@@ -20,7 +20,7 @@ use lib.Dec.{eqb, leb}
 use lib.ListN.{length}
 use Rattle.paper.specs.Numbers.{unfit, outside, pastCount, mostCounted, unless}
 use Rattle.paper.specs.Answer.{Answer, gives, refused, owed}
-use Rattle.paper.proofs.Answer.{gives-one, refused-one, never-both}
+use Rattle.paper.proofs.Answer.{either, known-by, gives-one, never-both}
 use Rattle.tally.specs.Ranges.{isVerdict, isFlag, every, known, acceptedIn, framesIn, inRange}
 use Rattle.tally.specs.Fold.{after}
 use Rattle.tally.specs.Answers.{answer, howMany}
@@ -128,25 +128,27 @@ pub some-answer : SomeAnswer
 unfolding Adds
 some-answer t vs ps = held (owed (refusal t vs ps) (after t vs ps))
 
+added-one : (r s : Added) → answer r ≡ answer s → r ≡ s
+added-one = known-by answer (either Next Refused) back
+  where
+    back : (r : Added) → either Next Refused (answer r) ≡ r
+    back (Next a) = refl
+    back (Refused n) = refl
+
 pub one-answer : OneAnswer
 unfolding Adds
-one-answer t vs ps r s p q = by r s (p ∙ sym q)
+one-answer t vs ps r s p q = added-one r s (p ∙ sym q)
+
+sum-one : (r s : HowMany) → howMany r ≡ howMany s → r ≡ s
+sum-one = known-by howMany (either many.Frames many.Refused) back
   where
-    by : (r s : Added) → answer r ≡ answer s → r ≡ s
-    by (Next u) (Next w) e = ap Next (gives-one u w e)
-    by (Next u) (Refused n) e = absurd (never-both u n e)
-    by (Refused n) (Next u) e = absurd (never-both u n (sym e))
-    by (Refused m) (Refused n) e = ap Refused (refused-one m n e)
+    back : (r : HowMany) → either many.Frames many.Refused (howMany r) ≡ r
+    back (many.Frames a) = refl
+    back (many.Refused n) = refl
 
 pub one-sum : OneSum
 unfolding Sums
-one-sum t r s p q = by r s (p ∙ sym q)
-  where
-    by : (r s : HowMany) → howMany r ≡ howMany s → r ≡ s
-    by (many.Frames m) (many.Frames n) e = ap many.Frames (gives-one m n e)
-    by (many.Frames m) (many.Refused n) e = absurd (never-both m n e)
-    by (many.Refused m) (many.Frames n) e = absurd (never-both n m (sym e))
-    by (many.Refused m) (many.Refused n) e = ap many.Refused (refused-one m n e)
+one-sum t r s p q = sum-one r s (p ∙ sym q)
 
 pub stays-in-range : StaysInRange
 stays-in-range t u vs ps a =

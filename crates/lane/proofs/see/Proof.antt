@@ -1,10 +1,6 @@
 -- `lane::see` meets its contract, by the rules of both tables.
-use mathlib.Core.List.{map}
 use borrow.Author.Needs.{needs}
-use Rattle.octets.specs.Octets.{numbersOf}
-use Rattle.octets.proofs.Joined.{numbers-lt}
-use Rattle.reader.specs.ByTables.{readBy}
-use Rattle.reader.proofs.ByTables.{answers-by}
+use Rattle.reader.proofs.ByTables.{shown-of-bytes}
 use Rattle.lane.proofs.see.Statement.{statement}
 use Rattle.lane.proofs.see.Tie as tie
 
@@ -27,15 +23,8 @@ returns : tie.Need-returns
 returns c =
     let e = c .before .before .before .before in
     let s = e .before .before .before .before .before in
-    let t = s .before .corrections in
     let k = s .before .before .before .before in
-    let bs = k .before .args .bytes .now in
-    record {
-      ys = map (readBy (t .result) (s .byte-sums .result)) (numbersOf bs);
-      each = answers-by (t .result) (s .byte-sums .result) (t .ensures) (s .byte-sums .ensures) (numbersOf bs)
-          (numbers-lt bs (λ i. k .shared-slice-known .given i .fits));
-      all = e .see-by .ensures;
-    }
+    shown-of-bytes (s .before .corrections .ensures) (s .byte-sums .ensures) _ (λ i. k .shared-slice-known .given i .fits) _ (e .see-by .ensures)
 
 pub see-spec : {M : Type 1} → statement M
 see-spec =

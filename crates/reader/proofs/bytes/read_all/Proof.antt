@@ -1,10 +1,6 @@
 -- `reader::bytes::read_all` meets its contract, by the rules of both tables.
-use mathlib.Core.List.{map}
 use borrow.Author.Needs.{needs}
-use Rattle.octets.specs.Octets.{numbersOf}
-use Rattle.octets.proofs.Joined.{numbers-lt}
-use Rattle.reader.specs.ByTables.{readBy}
-use Rattle.reader.proofs.ByTables.{answers-by}
+use Rattle.reader.proofs.ByTables.{shown-of-bytes}
 use Rattle.reader.proofs.bytes.read_all.Statement.{statement}
 use Rattle.reader.proofs.bytes.read_all.Tie as tie
 
@@ -27,15 +23,9 @@ returns : tie.Need-returns
 returns c =
     let e = c .before .before .before .before in
     let s = e .before .before .before .before .before in
-    let t = s .before .corrections in
     let k = s .before .before .before .before in
-    let fs = k .before .args .frames .now in
-    record {
-      ys = map (readBy (t .result) (s .byte-sums .result)) (numbersOf fs);
-      each = answers-by (t .result) (s .byte-sums .result) (t .ensures) (s .byte-sums .ensures) (numbersOf fs)
-          (numbers-lt fs (λ i. k .shared-slice-known .given i .fits));
-      all = (e .read-each .ensures .0, (e .read-each .ensures .1, tt));
-    }
+    shown-of-bytes (s .before .corrections .ensures) (s .byte-sums .ensures) _ (λ i. k .shared-slice-known .given i .fits) _
+    (e .read-each .ensures .0, (e .read-each .ensures .1, tt))
 
 pub read-all-spec : {M : Type 1} → statement M
 read-all-spec =

@@ -1,8 +1,6 @@
 -- `reader::lists::read_all` meets its contract, by the rules of both tables.
-use mathlib.Core.List.{map}
 use borrow.Author.Needs.{needs}
-use Rattle.reader.specs.ByTables.{readBy}
-use Rattle.reader.proofs.ByTables.{answers-by}
+use Rattle.reader.proofs.ByTables.{shown-by-tables}
 use Rattle.reader.proofs.lists.read_all.Statement.{statement}
 use Rattle.reader.proofs.lists.read_all.Tie as tie
 
@@ -28,14 +26,10 @@ returns : tie.Need-returns
 returns c =
     let e = c .before .before .before .before .before .before in
     let s = e .before .before .before .before .before .before in
-    let t = s .before .corrections in
     let k = s .before .before .before .before .before in
-    record {
-      ys = map (readBy (t .result) (s .byte-sums .result)) (k .before .args .frames .now);
-      each = answers-by (t .result) (s .byte-sums .result) (t .ensures) (s .byte-sums .ensures) (k .before .args .frames .now)
-          (λ i h. k .shared-slice-known .given i .fits);
-      all = (e .read-each .ensures .0, (e .read-each .ensures .1 .0, (e .read-each .ensures .1 .1, tt)));
-    }
+    let r = e .read-each .ensures in
+    shown-by-tables (s .before .corrections .ensures) (s .byte-sums .ensures) _ (λ i h. k .shared-slice-known .given i .fits) _
+    (r .0, (r .1 .0, (r .1 .1, tt)))
 
 pub read-all-spec : {M : Type 1} → statement M
 read-all-spec =

@@ -9,7 +9,7 @@ use Prim.Native.Nat.{ℕ, _+_, _-_, _<_}
 use native.Mathlib.Omega.{arith}
 use borrow.Author.Tests.{eqb-false, ltb-true}
 use lib.Dec.{eqb, ltb}
-use Rattle.input.specs.Steps.{stepOf}
+use Rattle.input.specs.Parts.{stepOf}
 use Rattle.input.specs.declared.Input.the-variants.{Full, Last, Failed}
 use Rattle.input.specs.declared.Step.{Step}
 use Rattle.input.specs.declared.Step.the-variants.{More, Over}

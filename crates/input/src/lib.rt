@@ -1,6 +1,7 @@
 // Standard input, for programs.
 ghost use mathlib.Core.Path.{_≡_};
-ghost use Rattle.input.specs.Steps.{negative, cameOf, stepOf, Fits};
+ghost use Rattle.input.specs.Calls.{Fits};
+ghost use Rattle.input.specs.Parts.{negative, cameOf, stepOf};
 use libc::STDIN_FILENO;
 
 // What became of a buffer: the input filled it, or ended after so many bytes, or could not be read.

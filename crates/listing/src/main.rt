@@ -1,7 +1,7 @@
 // Counts the frames on standard input, eight bytes each, highest first, and prints eight lines.
 ghost use mathlib.Core.Path.{_≡_};
-ghost use Rattle.input.specs.Steps.{Fits};
-ghost use Rattle.listing.specs.States.{stateOf, TurnsTo};
+ghost use Rattle.input.specs.Calls.{Fits};
+ghost use Rattle.listing.specs.Parts.{stateOf, TurnsTo};
 use input::Input;
 use lane::Counted;
 use lane::Totals;

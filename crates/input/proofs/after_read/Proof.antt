@@ -9,7 +9,7 @@ use lib.Signed.{ltZ}
 use mir.Syntax.{w64}
 use mir.Val.{toZ, ofZ}
 use mir.ValLaws.{toZ-ofZ}
-use Rattle.input.specs.Steps.{negative, stepOf}
+use Rattle.input.specs.Parts.{negative, stepOf}
 use Rattle.input.proofs.after_read.Statement.{statement}
 use Rattle.input.proofs.after_read.Tie as tie
 

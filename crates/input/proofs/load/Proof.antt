@@ -5,7 +5,7 @@ use Prim.Native.Nat.{ℕ, _≤_, _-_}
 use borrow.Author.Needs.{needs}
 use lib.ListN.{length}
 use lib.Seq.{length-take-le}
-use Rattle.input.specs.Steps.{Fits}
+use Rattle.input.specs.Calls.{Fits}
 use Rattle.input.specs.declared.Input.{Input}
 use Rattle.input.specs.declared.Input.the-variants.{Full, Last, Failed}
 use Rattle.input.specs.declared.Step.the-variants.{Over}

@@ -1,7 +1,7 @@
 -- `counted` goes by the count's answer and by whether the buffer was the last.
 use mathlib.Core.Path.{sym, ap₂}
 use borrow.Author.Needs.{needs}
-use Rattle.listing.specs.States.{stateOf}
+use Rattle.listing.specs.Parts.{stateOf}
 use Rattle.listing.proofs.counted.Statement.{statement}
 use Rattle.listing.proofs.counted.Tie as tie
 

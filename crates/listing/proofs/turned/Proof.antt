@@ -1,9 +1,9 @@
 -- `turned` goes by what became of the buffer, and hands the count on.
 use mathlib.Core.Path.{refl, sym, subst}
 use borrow.Author.Needs.{needs}
-use Rattle.input.specs.Steps.{Fits}
+use Rattle.input.specs.Calls.{Fits}
 use Rattle.input.specs.declared.Input.{Input}
-use Rattle.listing.specs.States.{TurnsTo}
+use Rattle.listing.specs.Parts.{TurnsTo}
 use Rattle.listing.specs.declared.State.the-variants.{Unread}
 use Rattle.listing.proofs.turned.Statement.{statement}
 use Rattle.listing.proofs.turned.Tie as tie

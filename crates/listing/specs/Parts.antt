@@ -1,4 +1,4 @@
--- What the run of the listing comes to, buffer by buffer.
+-- What only private functions cite: what the run of the listing comes to, buffer by buffer.
 -- ┌────────────────┬────────────────────────────────────────────────────────────────┐
 -- │ ended last u   │ the totals of the whole input, or so far                       │
 -- │ stateOf c last │ what a counted buffer comes to; a refusal of the count ends    │

@@ -1,18 +1,14 @@
--- What reading input into a buffer comes to.
+-- What only private functions cite: what a read comes to.
 -- ┌────────────────────────┬───────────────────────────────────────────────────────┐
 -- │ negative z             │ what a read answers that failed                       │
 -- │ cameOf n have size     │ n bytes came into a buffer that has some: there is    │
 -- │                        │ room for more, or it is full                          │
 -- │ stepOf bad n have size │ a read failed, or met the end of the input, or n came │
--- │ Fits i bs              │ where the input ended, it ended inside the buffer     │
 -- └────────────────────────┴───────────────────────────────────────────────────────┘
 use mathlib.Core.Bool.{Bool, true, false, cond}
-use mathlib.Core.List.{List}
 use Prim.Native.Nat.{ℕ, _+_, _-_}
 use lib.Dec.{eqb, ltb}
 use lib.IntN.{ℤ, pos, negsuc}
-use Rattle.io.specs.Counts.{Counts}
-use Rattle.input.specs.declared.Input.{Input}
 use Rattle.input.specs.declared.Input.the-variants.{Full, Last, Failed}
 use Rattle.input.specs.declared.Step.{Step}
 use Rattle.input.specs.declared.Step.the-variants.{More, Over}
@@ -26,8 +22,3 @@ cameOf n have size = cond (ltb n (size - have)) (More (have + n)) (Over Full)
 
 unfoldable pub stepOf : Bool → ℕ → ℕ → ℕ → Step
 stepOf bad n have size = cond bad (Over Failed) (cond (eqb n 0) (Over (Last have)) (cameOf n have size))
-
-abbrev pub Fits : Input → List ℕ → Type 0
-Fits Full bs = Unit
-Fits (Last n) bs = Counts n bs
-Fits Failed bs = Unit

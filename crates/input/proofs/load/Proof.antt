@@ -80,8 +80,9 @@ same-length c = search needs
 
 returns : tie.Need-returns Inv-loop μ-loop
 returns c =
-    let l = c .before .before .before .before .before .before .before .before .before .before .before .before .loop in
-    fits _ (l .have) _ (λ k e. last _ _ _ _ _ (sym (c .before .before .before .after-read .ensures) ∙ c .before .i .given .1 ∙ ap Over e)) (search needs)
+    let r = c .before .before .before in
+    let l = r .before .before .before .before .before .before .before .before .before .loop in
+    fits _ (l .have) _ (λ k e. last _ _ _ _ _ (sym (r .after-read .ensures) ∙ c .before .i .given .1 ∙ ap Over e)) (search needs)
 
 same-length-2 : tie.Need-same-length-2 Inv-loop μ-loop
 same-length-2 c = search needs

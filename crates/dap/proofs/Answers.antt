@@ -46,30 +46,24 @@ past a b p k =
 pub few : (a b : List ℕ) (p : ℕ) → Accepted a b p → diffs a b ≤ 1 → owedOn a b p ≡ gives (named (diffs a b) (eqb (parityOf a) p))
 few a b p k h = past a b p k ∙ simp (le-ltb 1 (diffs a b) h)
 
-one-made : (r s : Made) → made r ≡ made s → r ≡ s
-one-made = known-by made (either Parity Unmade) back
-  where
-    back : (r : Made) → either Parity Unmade (made r) ≡ r
-    back (Parity a) = refl
-    back (Unmade n) = refl
+made-back : (r : Made) → either Parity Unmade (made r) ≡ r
+made-back (Parity a) = refl
+made-back (Unmade n) = refl
 
 pub one-make : OneMake
 one-make d o₁ o₂ r s x₁ x₂ y₁ y₂ p q =
     let e : made r ≡ made s = p .answer ∙ sym (q .answer) in (
-      one-made r s e,
+      known-by made (either Parity Unmade) made-back r s e,
       p .first ∙ ap (λ (t : Answer ℕ). copied t d o₁) e ∙ sym (q .first),
       p .second ∙ ap (λ (t : Answer ℕ). copied t d o₂) e ∙ sym (q .second),
     )
 
-one-judged : (r s : Judged) → judged r ≡ judged s → r ≡ s
-one-judged = known-by judged (either Found Unjudged) back
-  where
-    back : (r : Judged) → either Found Unjudged (judged r) ≡ r
-    back (Found a) = refl
-    back (Unjudged n) = refl
+judged-back : (r : Judged) → either Found Unjudged (judged r) ≡ r
+judged-back (Found a) = refl
+judged-back (Unjudged n) = refl
 
 pub one-verdict : OneVerdict
-one-verdict a b p v w x y = one-judged v w (x ∙ sym y)
+one-verdict a b p v w x y = known-by judged (either Found Unjudged) judged-back v w (x ∙ sym y)
 
 pub some-verdict : SomeVerdict
 some-verdict a b p = of (owedOn a b p)

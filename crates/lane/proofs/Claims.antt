@@ -12,7 +12,7 @@ use native.Mathlib.Omega.{arith}
 use lib.ListN.{length, length-append}
 use Rattle.paper.specs.Numbers.{unfit}
 use Rattle.paper.specs.Answer.{gives, owed}
-use Rattle.paper.proofs.Answer.{either, known-by, gives-one, never-both}
+use Rattle.paper.proofs.Answer.{either, known-by, given, gives-one, never-both}
 use Rattle.laws.specs.Bits.{joining}
 use Rattle.tally.specs.Ranges.{framesIn}
 use Rattle.tally.specs.Counts.{fresh}

@@ -17,7 +17,7 @@ use Rattle.frame.specs.Word.{FrameOf}
 use Rattle.frame.proofs.Frames.{one-frame}
 use Rattle.maker.specs.Answers.{answer}
 use Rattle.maker.specs.Makes.{Makes}
-use Rattle.maker.specs.Lists.{listRefusal, bytesRefusal, inOrder, inBytes}
+use Rattle.maker.specs.Lists.{listRefusal, bytesRefusal, inOrder, asBytes}
 use Rattle.maker.specs.Claims.{OneMaking, OneMadeList, OneMadeBytes}
 use Rattle.maker.specs.declared.Making.{Making}
 use Rattle.maker.specs.declared.Making.the-variants.{Frame, Refused}
@@ -49,5 +49,5 @@ pub one-made-bytes : OneMadeBytes
 one-made-bytes ds o o′ a b e p q =
     let r =
     one-call FrameOf 0 (numbersOf ds) (λ i h x y. one-frame (getD (numbersOf ds) i 0) x y) _ _ (ap (bytesRefusal ds) e)
-    (inBytes o ∷ []) (inBytes o′ ∷ []) (refl, e, tt) a b p q in
+    (asBytes o ∷ []) (asBytes o′ ∷ []) (refl, e, tt) a b p q in
     (r .0, r .1 .0)

@@ -4,7 +4,7 @@
 -- │ listRefusal    │ 12 for a short output, 11 for a value too large, else 0      │
 -- │ bytesRefusal   │ the same on bytes: 12 also for a ragged length               │
 -- │ inOrder o      │ the output o shows the frames one after the other            │
--- │ inBytes o      │ the same, eight bytes a frame                                │
+-- │ asBytes o      │ the same, eight bytes a frame                                │
 -- │ MakesList      │ `make_list`                                                  │
 -- │ MakesBytes     │ `make_bytes`                                                 │
 -- └────────────────┴──────────────────────────────────────────────────────────────┘
@@ -31,11 +31,11 @@ bytesRefusal ds fs = cond (ragged ds || (ragged fs || short ds fs)) unfit (cond 
 abbrev pub inOrder : Lent → Output ℕ
 inOrder o = record { shows = λ fs. fs; place = o }
 
-abbrev pub inBytes : Lent → Output ℕ
-inBytes o = record { shows = bytesOf; place = o }
+abbrev pub asBytes : Lent → Output ℕ
+asBytes o = record { shows = bytesOf; place = o }
 
 abbrev pub MakesList : List ℕ → Lent → Answer Unit → Type 0
 MakesList ds o a = ListCall FrameOf ds (listRefusal ds (o .was)) (inOrder o ∷ []) a
 
 abbrev pub MakesBytes : List ℕ → Lent → Answer Unit → Type 0
-MakesBytes ds o a = ListCall FrameOf (numbersOf ds) (bytesRefusal ds (o .was)) (inBytes o ∷ []) a
+MakesBytes ds o a = ListCall FrameOf (numbersOf ds) (bytesRefusal ds (o .was)) (asBytes o ∷ []) a

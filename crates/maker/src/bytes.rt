@@ -8,7 +8,7 @@ ghost use Rattle.paper.specs.Answer.{listed};
 ghost use Rattle.laws.specs.Lent.{_to_, lent, Written};
 ghost use Rattle.octets.specs.Octets.{numbersOf};
 ghost use Rattle.frame.specs.Word.{FrameOf};
-ghost use Rattle.maker.specs.Lists.{anyTooLarge, inBytes, MakesBytes};
+ghost use Rattle.maker.specs.Lists.{anyTooLarge, asBytes, MakesBytes};
 use crate::layout::DATA_END;
 use crate::layout::frame_of;
 use paper::Listed;
@@ -28,7 +28,7 @@ fn any_large(data: &[u8]) -> bool
 
 fn make_each(data: &[u8], frames: &mut [u8])
     requires { ⌜ (length (now «data») ≤ length (now frames)) × (anyTooLarge (numbersOf (now «data»)) ≡ false) ⌝ }
-    ensures { λ _. ⌜ Written FrameOf (numbersOf (now («data» .entry))) (inBytes (lent frames) ∷ []) ⌝ }
+    ensures { λ _. ⌜ Written FrameOf (numbersOf (now («data» .entry))) (asBytes (lent frames) ∷ []) ⌝ }
 {
     let mut i = 0;
     while i < data.len() / 8 {

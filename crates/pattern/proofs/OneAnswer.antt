@@ -22,33 +22,21 @@ use Rattle.pattern.specs.declared.counter.Fed.the-variants.{Counted, Ref
 use Rattle.pattern.specs.declared.report.Report.{Report}
 use Rattle.pattern.specs.declared.report.Report.the-variants.{Measured, Ceiling, Refused as Unreported}
 
-same-started : (r s : Started) → started r ≡ started s → r ≡ s
-same-started = known-by started (either Ready Unstarted) back
-  where
-    back : (r : Started) → either Ready Unstarted (started r) ≡ r
-    back (Ready a) = refl
-    back (Unstarted n) = refl
+started-back : (r : Started) → either Ready Unstarted (started r) ≡ r
+started-back (Ready a) = refl
+started-back (Unstarted n) = refl
 
-same-filled : (r s : Filled) → filled r ≡ filled s → r ≡ s
-same-filled = known-by filled (either Advanced Unfilled) back
-  where
-    back : (r : Filled) → either Advanced Unfilled (filled r) ≡ r
-    back (Advanced a) = refl
-    back (Unfilled n) = refl
+filled-back : (r : Filled) → either Advanced Unfilled (filled r) ≡ r
+filled-back (Advanced a) = refl
+filled-back (Unfilled n) = refl
 
-same-opened : (r s : Opened) → opened r ≡ opened s → r ≡ s
-same-opened = known-by opened (either Fresh Unopened) back
-  where
-    back : (r : Opened) → either Fresh Unopened (opened r) ≡ r
-    back (Fresh a) = refl
-    back (Unopened n) = refl
+opened-back : (r : Opened) → either Fresh Unopened (opened r) ≡ r
+opened-back (Fresh a) = refl
+opened-back (Unopened n) = refl
 
-same-fed : (r s : Fed) → fed r ≡ fed s → r ≡ s
-same-fed = known-by fed (either Counted Unfed) back
-  where
-    back : (r : Fed) → either Counted Unfed (fed r) ≡ r
-    back (Counted a) = refl
-    back (Unfed n) = refl
+fed-back : (r : Fed) → either Counted Unfed (fed r) ≡ r
+fed-back (Counted a) = refl
+fed-back (Unfed n) = refl
 
 rated : ℕ → ℕ → Rate → Report
 rated b e (measured x) = Measured b e x
@@ -64,18 +52,18 @@ same-reported = known-by reported (either (λ f. rated (f .bits) (f .errors) (f 
     back (Unreported n) = refl
 
 pub one-start : OneStart
-one-start p r s t x y = same-started s t (x ∙ sym y)
+one-start p r s t x y = known-by started (either Ready Unstarted) started-back s t (x ∙ sym y)
 
 pub one-fill : OneFill
 one-fill g before r s x y p q =
     let e : filled r ≡ filled s = p .answer ∙ sym (q .answer) in
-    (same-filled r s e, p .buffer ∙ ap (λ (t : Answer Generator). fillLeaves t g before) e ∙ sym (q .buffer))
+    (known-by filled (either Advanced Unfilled) filled-back r s e, p .buffer ∙ ap (λ (t : Answer Generator). fillLeaves t g before) e ∙ sym (q .buffer))
 
 pub one-fresh : OneFresh
-one-fresh p s t x y = same-opened s t (x ∙ sym y)
+one-fresh p s t x y = known-by opened (either Fresh Unopened) opened-back s t (x ∙ sym y)
 
 pub one-feed : OneFeed
-one-feed c piece s t x y = same-fed s t (x ∙ sym y)
+one-feed c piece s t x y = known-by fed (either Counted Unfed) fed-back s t (x ∙ sym y)
 
 pub one-report : OneReport
 one-report c s t x y = same-reported s t (x ∙ sym y)

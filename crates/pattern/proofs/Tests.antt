@@ -89,4 +89,3 @@ refuses m (suc n) a e h = ap refused e
 pub answers : {A : Type 0} (m n : ℕ) (a : A) → m ≡ n → m ≡ 0 → gives a ≡ owed n a
 answers m zero a e h = refl
 answers m (suc n) a e h = absurd (omega arith)
-

@@ -24,7 +24,8 @@ returns c =
     let e = c .before .before .before .before in
     let s = e .before .before .before .before .before in
     let k = s .before .before .before .before in
-    shown-of-bytes (s .before .corrections .ensures) (s .byte-sums .ensures) _ (λ i. k .shared-slice-known .given i .fits) _ (e .see-by .ensures)
+    shown-of-bytes (s .before .corrections .ensures) (s .byte-sums .ensures) (k .before .args .bytes .now)
+    (λ i. k .shared-slice-known .given i .fits) _ (e .see-by .ensures)
 
 pub see-spec : {M : Type 1} → statement M
 see-spec =

@@ -24,7 +24,7 @@ returns c =
     let e = c .before .before .before .before in
     let s = e .before .before .before .before .before in
     let k = s .before .before .before .before in
-    shown-of-bytes (s .before .corrections .ensures) (s .byte-sums .ensures) _ (λ i. k .shared-slice-known .given i .fits) _
+    shown-of-bytes (s .before .corrections .ensures) (s .byte-sums .ensures) (k .before .args .frames .now) (λ i. k .shared-slice-known .given i .fits) _
     (e .read-each .ensures .0, (e .read-each .ensures .1, tt))
 
 pub read-all-spec : {M : Type 1} → statement M

@@ -1,8 +1,8 @@
 -- A table of corrections by construction, so that what is shown of the code rests on no list of numbers.
--- ┌───────────────┬────────────────────────────────────────────────────────────────┐
--- │ table         │ each valid number stands at the remainder of its mask       │
--- │ table-right   │ it has the right entry for each remainder                      │
--- └───────────────┴────────────────────────────────────────────────────────────────┘
+-- ┌─────────────┬───────────────────────────────────────────────────────┐
+-- │ table       │ each valid number stands at the remainder of its mask │
+-- │ table-right │ it has the right entry for each remainder             │
+-- └─────────────┴───────────────────────────────────────────────────────┘
 use mathlib.Core.Path.{refl}
 use mathlib.Core.Bool.{Bool, true, false}
 use mathlib.Core.List.{List, [], _∷_, _++_}

@@ -1,16 +1,16 @@
 -- The positions at which two words differ are the ones of their sum.
--- ┌───────────────┬────────────────────────────────────────────────────────────────┐
--- │ ups k e       │ the positions, among the last k of 63, at which e is one       │
--- │ differ-ups    │ two words differ where their sum is one                        │
--- │ sumOf l       │ the word with ones at the positions l                          │
--- │ rebuild       │ a word is the sum of its ones                                  │
--- │ Rising lo l   │ l rises, from lo on, and stays below 63                        │
--- │ ups-rising    │ so do the ones of a word                                       │
--- │ rising-take,  │ and both parts of what rises                                   │
--- │ rising-drop   │                                                                │
--- │ sum-split     │ whose words add up                                             │
--- │ mask-of       │ at most two rising positions are the mask of a valid number │
--- └───────────────┴────────────────────────────────────────────────────────────────┘
+-- ┌──────────────┬─────────────────────────────────────────────────────────────┐
+-- │ ups k e      │ the positions, among the last k of 63, at which e is one    │
+-- │ differ-ups   │ two words differ where their sum is one                     │
+-- │ sumOf l      │ the word with ones at the positions l                       │
+-- │ rebuild      │ a word is the sum of its ones                               │
+-- │ Rising lo l  │ l rises, from lo on, and stays below 63                     │
+-- │ ups-rising   │ so do the ones of a word                                    │
+-- │ rising-take, │ and both parts of what rises                                │
+-- │ rising-drop  │                                                             │
+-- │ sum-split    │ whose words add up                                          │
+-- │ mask-of      │ at most two rising positions are the mask of a valid number │
+-- └──────────────┴─────────────────────────────────────────────────────────────┘
 use mathlib.Core.Path.{_≡_, refl, sym, ap, ap₂, _∙_}
 use mathlib.Core.Bool.{Bool, true, false, not}
 use mathlib.Core.List.{List, [], _∷_}

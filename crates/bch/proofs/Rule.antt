@@ -1,9 +1,9 @@
 -- The rule of the table of corrections, by one computed test.
--- ┌─────────────────┬──────────────────────────────────────────────────────────────┐
+-- ┌─────────────────┬───────────────────────────────────────────────────────────┐
 -- │ right? t        │ the test: each entry is sound, and each mask finds itself │
--- │ is-corrections  │ a list of 4,096 that passes it, counted, is `Corrections`    │
--- │ one-corrections │ there is no second one                                       │
--- └─────────────────┴──────────────────────────────────────────────────────────────┘
+-- │ is-corrections  │ a list of 4,096 that passes it, counted, is `Corrections` │
+-- │ one-corrections │ there is no second one                                    │
+-- └─────────────────┴───────────────────────────────────────────────────────────┘
 use mathlib.Core.Path.{_≡_, sym, ap, _∙_, subst}
 use mathlib.Core.Bool.{Bool, not, _&&_, _||_}
 use mathlib.Core.List.{List, [], _∷_}

@@ -1,8 +1,8 @@
 -- The positions at which two words differ whose sum is a mask, by one computed test over the masks.
--- ┌───────────────┬────────────────────────────────────────────────────────────────┐
--- │ shown         │ words whose sum is a valid mask differ at its places        │
--- │ places-short  │ which are at most two                                          │
--- └───────────────┴────────────────────────────────────────────────────────────────┘
+-- ┌──────────────┬──────────────────────────────────────────────────────┐
+-- │ shown        │ words whose sum is a valid mask differ at its places │
+-- │ places-short │ which are at most two                                │
+-- └──────────────┴──────────────────────────────────────────────────────┘
 use mathlib.Core.Path.{_≡_, refl, ap, ap₂, _∙_}
 use mathlib.Core.Bool.{Bool, true, false, not, _&&_, _||_}
 use mathlib.Core.List.{List, [], _∷_}

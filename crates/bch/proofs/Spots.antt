@@ -1,11 +1,11 @@
 -- The remainder of a mask, quickly: the sum of two of 64 remainders.
--- ┌───────────────┬────────────────────────────────────────────────────────────────┐
--- │ spots         │ the remainder of each position alone                           │
--- │ quick n       │ the remainder of the mask n, by `spots`                     │
--- │ quick-right   │ so it is                                                       │
--- │ spot-at       │ position i stands for x^(62-i)                                 │
--- │ mask-lt    │ a mask is a word                                            │
--- └───────────────┴────────────────────────────────────────────────────────────────┘
+-- ┌─────────────┬─────────────────────────────────────────┐
+-- │ spots       │ the remainder of each position alone    │
+-- │ quick n     │ the remainder of the mask n, by `spots` │
+-- │ quick-right │ so it is                                │
+-- │ spot-at     │ position i stands for x^(62-i)          │
+-- │ mask-lt     │ a mask is a word                        │
+-- └─────────────┴─────────────────────────────────────────┘
 use mathlib.Core.Path.{_≡_, ap, ap₂, _∙_}
 use mathlib.Core.Bool.{Bool}
 use mathlib.Core.List.{List, [], _∷_}

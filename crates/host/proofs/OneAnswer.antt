@@ -18,15 +18,15 @@ use Rattle.maker.specs.Makes.{Makes}
 use Rattle.reader.proofs.Demands.{one-answer}
 use Rattle.reader.proofs.OneAnswer.{one-read-bytes}
 use Rattle.maker.proofs.OneAnswer.{one-made-answer, one-made-bytes}
-use Rattle.host.specs.Entries.{codeOf, laid}
+use Rattle.host.specs.Entries.{returned, laid}
 use Rattle.host.specs.Claims.{OneCode, NotMistaken, OneOut, OneMade, OneRead}
 
 pub one-code : OneCode
-one-code d m n p q = p .code ∙ ap codeOf (one-made-answer d (p .made) (q .made) (p .owed) (q .owed)) ∙ sym (q .code)
+one-code d m n p q = p .code ∙ ap returned (one-made-answer d (p .made) (q .made) (p .owed) (q .owed)) ∙ sym (q .code)
 
 pub not-mistaken : NotMistaken
 not-mistaken d f n p e =
-    subst (λ (k : ℕ). 2 ^ 47 ≤ k) (sym (p .code ∙ ap codeOf e)) (frame-high d f (subst (Makes d) e (p .owed) .1))
+    subst (λ (k : ℕ). 2 ^ 47 ≤ k) (sym (p .code ∙ ap returned e)) (frame-high d f (subst (Makes d) e (p .owed) .1))
 
 pub one-out : OneOut
 one-out f o o′ m n h w (inl p) (inl q) = (p .1 ∙ sym (q .1), p .2 ∙ w ∙ sym (q .2))

@@ -1,19 +1,19 @@
 -- What the entries towards C owe, in the definitions of the crates `maker` and `reader`.
--- ┌────────────────────┬───────────────────────────────────────────────────────────┐
--- │ codeOf a           │ the number that C gets of the maker's answer: the frame,  │
--- │                    │ or the refusal                                            │
--- │ MakesCode d n      │ `lks_frame_make`: the number of what the maker owes       │
--- │ Small p            │ the places fit a byte                                     │
--- │ answerBytes        │ the bytes of an answer                                    │
--- │ noPlace            │ 255, in a byte for a place where there is none            │
--- │ laidOut r a        │ the answer buffer a with a reading in its first twelve    │
--- │                    │ bytes: the data, highest byte first; how many flips;      │
--- │                    │ their places, the lower first; the pad flag               │
--- │ laid b a           │ the buffer after an answer: as it was where refused       │
--- │ Answered           │ the number and the buffer of the answer the reader owes   │
--- │ ReadsOut f o n     │ `lks_frame_read`: 12 for a buffer under twelve bytes,     │
--- │                    │ else the number of the answer that the reader owes        │
--- └────────────────────┴───────────────────────────────────────────────────────────┘
+-- ┌────────────────┬──────────────────────────────────────────────────────────┐
+-- │ returned a     │ the number that C gets of the maker's answer: the frame, │
+-- │                │ or the refusal                                           │
+-- │ MakesCode d n  │ `lks_frame_make`: the number of what the maker owes      │
+-- │ Small p        │ the places fit a byte                                    │
+-- │ answerBytes    │ the bytes of an answer                                   │
+-- │ noPlace        │ 255, in a byte for a place where there is none           │
+-- │ laidOut r a    │ the answer buffer a with a reading in its first twelve   │
+-- │                │ bytes: the data, highest byte first; how many flips;     │
+-- │                │ their places, the lower first; the pad flag              │
+-- │ laid b a       │ the buffer after an answer: as it was where refused      │
+-- │ Answered       │ the number and the buffer of the answer the reader owes  │
+-- │ ReadsOut f o n │ `lks_frame_read`: 12 for a buffer under twelve bytes,    │
+-- │                │ else the number of the answer that the reader owes       │
+-- └────────────────┴──────────────────────────────────────────────────────────┘
 use mathlib.Core.Path.{_≡_}
 use mathlib.Core.List.{List, _∷_, _++_}
 use mathlib.Core.Logic.{_⊎_}
@@ -29,14 +29,14 @@ use Rattle.maker.specs.Makes.{Makes}
 use Rattle.reader.specs.declared.Flips.{Flips}
 use Rattle.reader.specs.declared.Flips.the-variants.{Nowhere, One, Two}
 
-abbrev pub codeOf : Answer ℕ → ℕ
-codeOf (gives f) = f
-codeOf (refused n) = n
+abbrev pub returned : Answer ℕ → ℕ
+returned (gives f) = f
+returned (refused n) = n
 
 pub record MakesCode (d n : ℕ) : Type 0 where
   pub made : Answer ℕ
   pub owed : Makes d made
-  pub code : n ≡ codeOf made
+  pub code : n ≡ returned made
 
 abbrev pub Small : Flips → Type 0
 Small Nowhere = Unit

@@ -8,7 +8,7 @@ ghost use Rattle.reader.specs.Answers.{placesOf, flag, found};
 ghost use Rattle.maker.specs.Answers.{answer};
 ghost use Rattle.maker.specs.Lists.{MakesBytes};
 ghost use Rattle.reader.specs.Lists.{ReadsBytes};
-ghost use Rattle.host.specs.Entries.{codeOf, MakesCode, Small, answerBytes, noPlace, laidOut, ReadsOut};
+ghost use Rattle.host.specs.Entries.{returned, MakesCode, Small, answerBytes, noPlace, laidOut, ReadsOut};
 use maker::Making;
 use reader::Flips;
 use reader::Reading;
@@ -29,8 +29,8 @@ fn wide(n: u8) -> u64
     n as u64
 }
 
-fn code_of(m: Making) -> u64
-    ensures { λ n. ⌜ n ≡ codeOf (answer m) ⌝ }
+fn returned(m: Making) -> u64
+    ensures { λ n. ⌜ n ≡ returned (answer m) ⌝ }
 {
     match m {
         Making::Frame(f) => f,
@@ -93,7 +93,7 @@ fn lay_out(answer: &mut [u8], w: Word)
 pub extern "C" fn lks_frame_make(data: u64) -> u64
     ensures { λ n. ⌜ MakesCode «data» n ⌝ }
 {
-    code_of(maker::make(data))
+    returned(maker::make(data))
 }
 
 #[no_mangle]

@@ -32,9 +32,9 @@ use Rattle.bch.specs.Code.{position, differences}
 use Rattle.bch.specs.Corrections.{mask, places, Entry}
 use Rattle.frame.specs.Word.{wordOf, padOf, RunsRight, dataOf}
 use Rattle.tables.specs.Sums.{runSums, sums}
-use Rattle.tables.specs.Tables.{entryOf, Mends, ByteSums}
+use Rattle.tables.specs.Tables.{entryOf, MendTable, ByteSums}
 use Rattle.tables.proofs.Sums.{all-right, runs-xor, sums-low, sums-high}
-use Rattle.tables.proofs.Tables.{frameSums, frame-sums-xor, mends-entry}
+use Rattle.tables.proofs.Tables.{frameSums, frame-sums-xor, mend-entry}
 use Rattle.tables.proofs.Grown.{byte-turn}
 use Rattle.reader.specs.Answers.{Found, flag}
 use Rattle.reader.specs.Reads.{Reads}
@@ -114,7 +114,7 @@ module _ (f : ℕ) (h : f < 2 ^ 64) where
           (λ q. last f (mended f e) (a-word f e h t z (all-right (mended f e) .1 (sym runs ∙ q))))
           (λ q. run-broken f e h t z (λ s. q (runs ∙ all-right (mended f e) .0 s))))
 
-  pub read-mended : (c : List ℕ) → Mends c → Reads f (saidBy f (mendBy c (sums (wordOf f)) f))
+  pub read-mended : (c : List ℕ) → MendTable c → Reads f (saidBy f (mendBy c (sums (wordOf f)) f))
   read-mended c m = by (ℕ-discrete (sums (wordOf f) % 4096) 0)
     where
       n : ℕ
@@ -131,14 +131,14 @@ module _ (f : ℕ) (h : f < 2 ^ 64) where
       by (no z) =
           subst R (sym (ne-eqb (sums (wordOf f) % 4096) 0 z))
           (read-entry n
-          (subst (λ (r : ℕ). Entry r (entryOf n)) (sums-low (wordOf f)) (mends-entry m (sums (wordOf f) % 4096) i))
+          (subst (λ (r : ℕ). Entry r (entryOf n)) (sums-low (wordOf f)) (mend-entry m (sums (wordOf f) % 4096) i))
           (m .runs (sums (wordOf f) % 4096) i))
 
 pub by-the-tables : ByTheTables
 unfolding readBy
 by-the-tables c b m t f h = subst (λ (x : ℕ). Reads f (saidBy f (mendBy c x f))) (sym (sums-by b t f h)) (read-mended f h c m)
 
-module _ {c b : List ℕ} (m : Mends c) (t : ByteSums b) where
+module _ {c b : List ℕ} (m : MendTable c) (t : ByteSums b) where
   -- outputs that show the frames of a list, read by the tables, show an answer to each
   pub shown-by-tables : (fs : List ℕ) → Numbers fs → (os : List (Output (Answer Found))) → AllShow (map (readBy c b) fs) os → Written Reads fs os
   shown-by-tables fs n os s =

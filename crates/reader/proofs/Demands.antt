@@ -1,31 +1,39 @@
--- Demand 3: some answer, one answer, the nearest word, each refusal exactly where the paper says, and no still line read.
+-- Demand 3: some answer to any 64 bits, and one only.
+-- ┌─────────────────┬──────────────────────────────────────────────────────────────┐
+-- │ near            │ what was read is near                                        │
+-- │ read-of         │ a lawful word within two flips is read                       │
+-- │ no-word, a-word,│ what the entry of the remainder says of a frame              │
+-- │   run-broken    │                                                              │
+-- │ received,       │ what is said of a code word as it came                       │
+-- │ received-broken │                                                              │
+-- │ some-answer,    │ the claims of specs/Claims.antt by these names               │
+-- │ one-word,       │                                                              │
+-- │ one-answer      │                                                              │
+-- └─────────────────┴──────────────────────────────────────────────────────────────┘
 use mathlib.Core.Path.{_≡_, refl, sym, ap, _∙_, subst}
-use mathlib.Core.List.{List, []}
+use mathlib.Core.List.{[]}
 use mathlib.Core.Logic.{inl, inr}
-use Prim.Native.Nat.{ℕ, _-_, _^_, _<_, _≤_}
-use native.Mathlib.Decide.{decLe, ℕ-discrete}
+use Prim.Native.Nat.{ℕ, _^_, _<_, _≤_}
+use native.Mathlib.Decide.{ℕ-discrete}
 use native.Mathlib.Omega.{arith}
 use lib.Bits.{bitXor, xor-self}
 use lib.Dec.{eqb, lit<, lit≤}
 use lib.ListN.{length, getD}
-use borrow.Author.Tests.{ne-eqb}
 use Rattle.paper.specs.Answer.{Answer, gives, refused}
-use Rattle.paper.proofs.Answer.{never-both}
 use Rattle.poly.specs.Poly.{rem}
 use Rattle.poly.proofs.Division.{is-divisible}
 use Rattle.bch.specs.Code.{position, differences, distance}
 use Rattle.bch.specs.Corrections.{mask, places, Entry}
 use Rattle.bch.proofs.Shown.{shown, places-short}
 use Rattle.bch.proofs.Nearest as bch
-use Rattle.bch.proofs.FiveApart.{five-apart, triangle, differences-sym}
 use Rattle.bch.proofs.Built.{table}
 use Rattle.frame.specs.Word.{wordOf, padOf, RunsRight, Lawful, dataOf}
 use Rattle.tables.specs.Sums.{runSums}
 use Rattle.tables.proofs.Sums.{all-right}
 use Rattle.reader.specs.Answers.{Found, flag}
 use Rattle.reader.specs.Reads.{ReadAs, NothingNear, BrokenNear, Reads}
-use Rattle.reader.specs.Claims.{ReadsBack, SomeAnswer, OneAnswer, OneWord, Nearest, Only13, Only14, StillLine}
-use Rattle.reader.specs.Claims.{readOf, OnlyRead, OnlyRefused, SendersData, Misread}
+use Rattle.reader.specs.Claims.{SomeAnswer, OneAnswer, OneWord}
+use Rattle.reader.specs.Claims.{readOf}
 
 pub half : (f : ℕ) → f < 2 ^ 64 → wordOf f < 2 ^ 63
 half f h = omega arith
@@ -62,7 +70,7 @@ module _ (f e : ℕ) (h : f < 2 ^ 64) (t : Entry (rem 63 (wordOf f)) e) where
         inr (refl, record { sent = mended f e; code = m .0; near = subst (λ (k : ℕ). k ≤ 2) (sym (ap length (m .1))) (places-short e); broken = b })
 
 -- a word differs from itself nowhere
-none-differ : (w : ℕ) → differences w w ≡ []
+pub none-differ : (w : ℕ) → differences w w ≡ []
 unfolding places mask
 none-differ w = shown w w 4095 (lit< tt) tt (xor-self w)
 
@@ -119,7 +127,7 @@ some-answer f h = by (ℕ-discrete e 0)
 pub one-word : OneWord
 one-word f h w w′ c c′ l l′ = bch.one-word (wordOf f) (half f h) w w′ c c′ l l′
 
-beyond : (n : ℕ) → n ≤ 2 → 2 < n → ⊥
+pub beyond : (n : ℕ) → n ≤ 2 → 2 < n → ⊥
 beyond n a b = omega arith
 
 -- what is read, field by field
@@ -160,77 +168,3 @@ one-answer f h (gives a) (gives b) r s = ap gives (same-read f h a b r s)
 one-answer f h (gives a) (refused n) r s = absurd (read-or-refused f h a n r s)
 one-answer f h (refused n) (gives a) r s = absurd (read-or-refused f h a n s r)
 one-answer f h (refused n) (refused m) r s = ap refused (same-refusal f h r s)
-
-pub nearest : Nearest
-nearest f h a r w c n = bch.nearest (wordOf f) (half f h) (r .sent) w (r .lawful .code) c (near r) n
-
-pub only-13 : Only13
-only-13 f h a r = (λ n. one-answer f h a (refused 13) r (inl (refl, n)), λ e. by (subst (Reads f) e r))
-  where
-    by : Reads f (refused 13) → NothingNear f
-    by (inl q) = q .1
-    by (inr q) = absurd (omega (arith, q .0))
-
-pub only-14 : Only14
-only-14 f h a r = (λ b. one-answer f h a (refused 14) r (inr (refl, b)), λ e. by (subst (Reads f) e r))
-  where
-    by : Reads f (refused 14) → BrokenNear f
-    by (inl q) = absurd (omega (arith, q .0))
-    by (inr q) = q .1
-
-pub only-read : OnlyRead
-only-read f h a r w l k = one-answer f h a (gives (readOf f w)) r (read-of f w l k)
-
-far : (n : ℕ) → (n ≤ 2 → ⊥) → 2 < n
-far n h = by (decLe n 2)
-  where
-    by : Dec (n ≤ 2) → 2 < n
-    by (yes l) = absurd (h l)
-    by (no m) = omega arith
-
-pub only-refused : OnlyRefused
-only-refused f h a r = (
-  none a r,
-  λ n e w l. far (distance w (wordOf f)) (λ k. never-both (readOf f w) n (sym (only-read f h a r w l k) ∙ e)),
-)
-  where
-    none : (a : Answer Found) → Reads f a → ((w : ℕ) → Lawful w → 2 < distance w (wordOf f)) → (n : ℕ) × (a ≡ refused n)
-    none (gives a) r q = absurd (beyond _ (near r) (q (r .sent) (r .lawful)))
-    none (refused n) r q = (n, refl)
-
-pub senders-data : SendersData
-senders-data d f g m h k a r = (readOf g (wordOf f), only-read g h a r (wordOf f) (m .lawful) k, m .carries, refl)
-
--- the word that was read is not the one that was sent, so they are five apart
-pub misread : Misread
-misread d f g m h a r n =
-    let apart : 5 ≤ distance (wordOf f) (r .sent) =
-    five-apart (wordOf f) (r .sent) (m .lawful .code) (r .lawful .code) (λ e. n (r .carries ∙ ap dataOf (sym e) ∙ m .carries)) in
-    let way = triangle (wordOf f) (wordOf g) (r .sent) in
-    let back : distance (wordOf g) (r .sent) ≡ length (a .places) =
-    ap length (differences-sym (wordOf g) (r .sent)) ∙ ap length (r .flips) in
-    omega arith
-
-pub reads-back : ReadsBack
-reads-back d f m =
-    record {
-      sent = wordOf f;
-      lawful = m .lawful;
-      flips = none-differ (wordOf f);
-      few = lit≤ tt;
-      carries = sym (m .carries);
-      padded = sym (ap flag (ne-eqb (padOf f) (position (wordOf f) 62) (λ e. absurd (apart (position (wordOf f) 62) (sym e ∙ m .pad)))));
-    }
-  where
-    apart : (b : ℕ) → b ≡ 1 - b → ⊥
-    apart b e = omega arith
-
-pub still-line : StillLine
-unfolding rem
-still-line f a r = (
-  λ e. still 0 (lit< tt) refl (λ q. absurd (omega (arith, q .at-16))) (subst (λ (i : ℕ). Reads i a) e r),
-  λ e. still (2 ^ 64 - 1) (lit< tt) refl (λ q. absurd (omega (arith, q .at-16))) (subst (λ (i : ℕ). Reads i a) e r),
-)
-  where
-    still : (f : ℕ) (h : f < 2 ^ 64) → rem 63 (wordOf f) ≡ 0 → (RunsRight (wordOf f) → ⊥) → Reads f a → a ≡ refused 14
-    still f h z b r = one-answer f h a (refused 14) r (received-broken f h z b)

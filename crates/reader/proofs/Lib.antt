@@ -1,4 +1,5 @@
 pub mod Demands
+pub mod Exactly
 pub mod ByTables
 pub mod Turns
 pub mod OneAnswer

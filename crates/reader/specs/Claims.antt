@@ -36,7 +36,7 @@ use Rattle.laws.specs.Bits.{Octets}
 use Rattle.laws.specs.Lent.{Lent}
 use Rattle.bch.specs.Code.{CodeWord, position, differences, distance}
 use Rattle.frame.specs.Word.{wordOf, padOf, dataOf, Lawful, FrameOf}
-use Rattle.tables.specs.Tables.{Mends, ByteSums}
+use Rattle.tables.specs.Tables.{MendTable, ByteSums}
 use Rattle.reader.specs.Answers.{Found, flag, answer}
 use Rattle.reader.specs.Reads.{ReadAs, NothingNear, BrokenNear, Reads}
 use Rattle.reader.specs.ByTables.{readBy}
@@ -96,7 +96,7 @@ StillLine = (f : ℕ) → (a : Answer Found) → Reads f a
     → (f ≡ 0 → a ≡ refused runBroken) × (f ≡ 2 ^ 64 - 1 → a ≡ refused runBroken)
 
 abbrev pub ByTheTables : Type 0
-ByTheTables = (c b : List ℕ) → Mends c → ByteSums b → (f : ℕ) → f < 2 ^ 64 → Reads f (readBy c b f)
+ByTheTables = (c b : List ℕ) → MendTable c → ByteSums b → (f : ℕ) → f < 2 ^ 64 → Reads f (readBy c b f)
 
 -- each call's contract leaves one answer
 abbrev pub OneReading : Type 0

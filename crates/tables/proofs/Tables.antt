@@ -1,14 +1,14 @@
 -- The rules of the two tables, each by one computed test.
--- ┌───────────────┬────────────────────────────────────────────────────────────────┐
--- │ frameSums f   │ the sums of a frame's word                                     │
--- │ frame-sums-xor│ they are linear                                                │
--- │ is-byte-sums  │ the table grown from the powers of two is a ByteSums           │
--- │ runs?         │ the test of an entry's run sums                                │
--- │ is-mends      │ entries that pass the tests are a Mends                        │
--- │ mends-entry   │ the entry of a remainder                                       │
--- │ one-mends,    │ the claims of specs/Claims.antt by these names                 │
--- │ one-byte-sums │                                                                │
--- └───────────────┴────────────────────────────────────────────────────────────────┘
+-- ┌─────────────────┬──────────────────────────────────────────────────────┐
+-- │ frameSums f     │ the sums of a frame's word                           │
+-- │ frame-sums-xor  │ they are linear                                      │
+-- │ is-byte-sums    │ the table grown from the powers of two is a ByteSums │
+-- │ runs?           │ the test of an entry's run sums                      │
+-- │ is-mend-table   │ entries that pass the tests are a MendTable          │
+-- │ mend-entry      │ the entry of a remainder                             │
+-- │ one-mend-table, │ the claims of specs/Claims.antt by these names       │
+-- │ one-byte-sums   │                                                      │
+-- └─────────────────┴──────────────────────────────────────────────────────┘
 use mathlib.Core.Path.{_≡_, sym, ap, ap₂, _∙_, subst}
 use mathlib.Core.Bool.{Bool}
 use mathlib.Core.List.{List, map}
@@ -25,8 +25,8 @@ use Rattle.bch.specs.Corrections.{mask, Entry, Corrections}
 use Rattle.bch.proofs.Rule.{one-corrections}
 use Rattle.frame.specs.Word.{wordOf}
 use Rattle.tables.specs.Sums.{runSums, sums}
-use Rattle.tables.specs.Tables.{entryOf, Mends, ByteSums}
-use Rattle.tables.specs.Claims.{OneMends, OneByteSums}
+use Rattle.tables.specs.Tables.{entryOf, MendTable, ByteSums}
+use Rattle.tables.specs.Claims.{OneMendTable, OneByteSums}
 use Rattle.tables.proofs.Sums.{sums-xor}
 use Rattle.tables.proofs.Grown.{rows, all-rows}
 
@@ -43,22 +43,22 @@ is-byte-sums t l e =
 unfoldable pub runs? : ℕ → ℕ → Bool
 runs? i n = eqb (n / 4096) (runSums (mask (entryOf n)))
 
-pub is-mends : (t : List ℕ) → Corrections (map entryOf t) → T (every runs? 0 t) → Mends t
+pub is-mend-table : (t : List ℕ) → Corrections (map entryOf t) → T (every runs? 0 t) → MendTable t
 unfolding runs?
-is-mends t c r =
+is-mend-table t c r =
     record {
       entries = c;
       runs = λ i h. eqb→eq _ _ (at runs? t r i (subst (λ (n : ℕ). i < n) (sym (c .size) ∙ length-map t entryOf) h));
     }
 
-module _ {t : List ℕ} (m : Mends t) where
-  pub mends-entry : (r : ℕ) → r < 4096 → Entry r (entryOf (getD t r 0))
-  mends-entry r h = subst (Entry r) (List·getD-map entryOf t r 0) (m .entries .right r h)
+module _ {t : List ℕ} (m : MendTable t) where
+  pub mend-entry : (r : ℕ) → r < 4096 → Entry r (entryOf (getD t r 0))
+  mend-entry r h = subst (Entry r) (List·getD-map entryOf t r 0) (m .entries .right r h)
 
-pub one-mends : OneMends
-one-mends t u p q = ext-getD 0 t u (size p ∙ sym (size q)) same
+pub one-mend-table : OneMendTable
+one-mend-table t u p q = ext-getD 0 t u (size p ∙ sym (size q)) same
   where
-    size : {t : List ℕ} → Mends t → length t ≡ 4096
+    size : {t : List ℕ} → MendTable t → length t ≡ 4096
     size {t} m = sym (length-map t entryOf) ∙ m .entries .size
 
     low : (i : ℕ) → entryOf (getD t i 0) ≡ entryOf (getD u i 0)

@@ -1,11 +1,11 @@
 -- The two constant tables that a reader is lent.
--- ┌────────────┬───────────────────────────────────────────────────────────────────┐
--- │ entryOf n  │ the entry of the table of corrections in the twelve low bits of n │
--- │ Mends t    │ the entries of t are those of a table of corrections; above each  │
--- │            │ stand the run sums of its mask                                    │
--- │ ByteSums t │ entry 256 k + b of t is the sums of the frame whose byte k,       │
--- │            │ counted from the lowest, is b and whose others are 0              │
--- └────────────┴───────────────────────────────────────────────────────────────────┘
+-- ┌─────────────┬───────────────────────────────────────────────────────────────────┐
+-- │ entryOf n   │ the entry of the table of corrections in the twelve low bits of n │
+-- │ MendTable t │ the entries of t are those of a table of corrections; above each  │
+-- │             │ stand the run sums of its mask                                    │
+-- │ ByteSums t  │ entry 256 k + b of t is the sums of the frame whose byte k,       │
+-- │             │ counted from the lowest, is b and whose others are 0              │
+-- └─────────────┴───────────────────────────────────────────────────────────────────┘
 use mathlib.Core.Path.{_≡_}
 use mathlib.Core.List.{List, map}
 use Prim.Native.Nat.{ℕ, _+_, _*_, _/_, _%_, _^_, _<_}
@@ -17,7 +17,7 @@ use Rattle.tables.specs.Sums.{runSums, sums}
 abbrev pub entryOf : ℕ → ℕ
 entryOf n = n % 4096
 
-pub record Mends (t : List ℕ) : Type 0 where
+pub record MendTable (t : List ℕ) : Type 0 where
   pub entries : Corrections (map entryOf t)
   pub runs : (r : ℕ) → r < 4096 → getD t r 0 / 4096 ≡ runSums (mask (entryOf (getD t r 0)))
 

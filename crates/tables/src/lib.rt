@@ -1,5 +1,5 @@
 // The constant tables of the reader. Whoever reads many frames takes each once and lends it on: each call writes its table anew.
-ghost use Rattle.tables.specs.Tables.{Mends, ByteSums};
+ghost use Rattle.tables.specs.Tables.{MendTable, ByteSums};
 
 mod bytes;
 mod entries;
@@ -13,7 +13,7 @@ pub fn byte_sums() -> [u16; 2048]
 
 // Which places to flip, for each remainder by g, and their run sums.
 pub fn corrections() -> [u16; 4096]
-    ensures { λ t. ⌜ Mends t ⌝ }
+    ensures { λ t. ⌜ MendTable t ⌝ }
 {
     entries::CORRECTIONS
 }

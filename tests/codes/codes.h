@@ -1,4 +1,4 @@
-// What the cases and their answers share: the kinds and their heads, as crates/answers/src/main.rt has them, and the limits.
+// What the cases and their answers share: the kinds and their heads, as crates/cases/src/main.rt has them, and the limits.
 #ifndef CODES_H
 #define CODES_H
 #include "../plain.h"

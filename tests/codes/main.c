@@ -1,4 +1,4 @@
-// A second answer to the cases of crates/answers. It is written from the paper: every lawful block is tried, bits stand in arrays one by
+// A second answer to the cases of crates/cases. It is written from the paper: every lawful block is tried, bits stand in arrays one by
 // one, and nothing is taken from the proved crates.
 //
 // usage: independent answers              answers the cases on standard input, a line each

@@ -1,11 +1,11 @@
-// Cases for crates/answers, a group at a time: what is asked, not what the answer is.
+// Cases for crates/cases, a group at a time: what is asked, not what the answer is.
 #include "cases.h"
 
 static const struct {
     const char *name;
     void (*write)(void);
 } groups[] = {
-    {"rows", rows},         // the bench rows, the worked examples and the outside vectors: what crates/answers/stdin has
+    {"rows", rows},         // the bench rows, the worked examples and the outside vectors: what crates/cases/stdin has
     {"hier", hier_cases},   // every data byte and every block
     {"dap", dap_cases},     // all double errors of two bytes; copies with up to three flips, lengths lawful and not, outputs of any length
     {"bus", bus_cases},     // every state and datum of widths 1 to 4; any width, changes about half of it, states out of range

@@ -1,9 +1,9 @@
--- `answers::say::bytes` is safe and ends.
+-- `cases::say::bytes` is safe and ends.
 use Prim.Native.Nat.{_≤_, _-_}
 use lib.ListN.{length}
 use borrow.Author.Needs.{needs}
-use Rattle.answers.proofs.say.bytes.Statement.{statement}
-use Rattle.answers.proofs.say.bytes.Tie as tie
+use Rattle.cases.proofs.say.bytes.Statement.{statement}
+use Rattle.cases.proofs.say.bytes.Tie as tie
 
 abbrev Inv-loop : tie.InvT-loop
 Inv-loop s at₀ t3 at = at ≤ length s

@@ -1,8 +1,8 @@
--- `answers::say::some` meets its contract.
+-- `cases::say::some` meets its contract.
 use native.Mathlib.Omega.{arith}
 use borrow.Author.Needs.{needs}
-use Rattle.answers.proofs.say.some.Statement.{statement}
-use Rattle.answers.proofs.say.some.Tie as tie
+use Rattle.cases.proofs.say.some.Statement.{statement}
+use Rattle.cases.proofs.say.some.Tie as tie
 
 cast-print-hex : tie.Need-cast-print-hex
 cast-print-hex c = omega (arith, c .shared-slice-known2 .given 0)

@@ -1,9 +1,9 @@
--- `answers::main` is safe and ends: the turns fall.
+-- `cases::main` is safe and ends: the turns fall.
 use mathlib.Core.Path.{_≡_}
 use lib.ListN.{length}
 use borrow.Author.Needs.{needs}
-use Rattle.answers.proofs.main.Statement.{statement}
-use Rattle.answers.proofs.main.Tie as tie
+use Rattle.cases.proofs.main.Statement.{statement}
+use Rattle.cases.proofs.main.Tie as tie
 
 abbrev Inv-loop : tie.InvT-loop
 Inv-loop buffer₀ turns₀ buffer turns = length buffer ≡ 65537

@@ -63,7 +63,7 @@ fn whole(i: Input) -> bool {
         Input::Failed => {
             io::write_all(
                 STDERR_FILENO,
-                b"answers: standard input could not be read\n",
+                b"cases: standard input could not be read\n",
             );
             false
         }

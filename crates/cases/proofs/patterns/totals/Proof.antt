@@ -1,11 +1,11 @@
--- `answers::patterns::totals` is safe: what equals itself is no NaN.
+-- `cases::patterns::totals` is safe: what equals itself is no NaN.
 use mathlib.Core.Path.{sym, subst}
 use mathlib.Core.Bool.{Bool, not}
 use lib.Dec.{T}
 use lib.Ieee.{Float, nan, inf, fin, eq, isNan}
 use borrow.Author.Needs.{needs}
-use Rattle.answers.proofs.patterns.totals.Statement.{statement}
-use Rattle.answers.proofs.patterns.totals.Tie as tie
+use Rattle.cases.proofs.patterns.totals.Statement.{statement}
+use Rattle.cases.proofs.patterns.totals.Tie as tie
 
 no-nan : (x : Float) → T (eq x x) → T (not (isNan x))
 unfolding eq isNan

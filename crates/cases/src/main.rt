@@ -61,10 +61,7 @@ fn whole(i: Input) -> bool {
         Input::Full => true,
         Input::Last(_) => false,
         Input::Failed => {
-            io::write_all(
-                STDERR_FILENO,
-                b"cases: standard input could not be read\n",
-            );
+            io::write_all(STDERR_FILENO, b"cases: standard input could not be read\n");
             false
         }
     }

@@ -1,3 +1,4 @@
 pub mod Fields
 pub mod Frames
 pub mod LongestRun
+pub mod Sums

@@ -6,12 +6,16 @@
 -- │ RunBound   │ lawful frames end to end have no run longer than `longestRun`   │
 -- │ RunReached │ and some have one as long                                       │
 -- │ LastBitRun │ the last bit of a line is in a run                              │
+-- │ AllRight   │ the run sums are `allRight` exactly where the run bits are right│
+-- │ SumsXor    │ the sums of a sum of two words are the sum of theirs            │
 -- └────────────┴─────────────────────────────────────────────────────────────────┘
 use mathlib.Core.Path.{_≡_}
 use mathlib.Core.List.{List}
 use Prim.Native.Nat.{ℕ, _-_, _*_, _^_, _<_, _≤_}
+use lib.Bits.{bitXor}
 use lib.ListN.{length}
-use Rattle.frame.specs.Word.{dataEnd, FrameOf}
+use Rattle.frame.specs.Word.{dataEnd, RunsRight, FrameOf}
+use Rattle.frame.specs.Sums.{runSums, allRight, sums}
 use Rattle.frame.specs.Line.{AllLawful, Run, longestRun}
 
 abbrev pub SomeFrame : Type 0
@@ -31,3 +35,9 @@ RunReached = (fs : List ℕ) × AllLawful fs × (s : ℕ) × Run fs s longestRun
 
 abbrev pub LastBitRun : Type 0
 LastBitRun = (fs : List ℕ) → 0 < length fs → Run fs (64 * length fs - 1) 1
+
+abbrev pub AllRight : Type 0
+AllRight = (w : ℕ) → (RunsRight w → runSums w ≡ allRight) × (runSums w ≡ allRight → RunsRight w)
+
+abbrev pub SumsXor : Type 0
+SumsXor = (v w : ℕ) → sums (bitXor v w) ≡ bitXor (sums v) (sums w)

@@ -1,4 +1,5 @@
 pub mod Word
 pub mod Line
+pub mod Sums
 pub mod Parts
 pub mod Claims

@@ -31,9 +31,9 @@ use Rattle.poly.proofs.Division.{rem-lt, is-divisible}
 use Rattle.bch.specs.Code.{position, differences}
 use Rattle.bch.specs.Corrections.{mask, places, Entry}
 use Rattle.frame.specs.Word.{wordOf, padOf, RunsRight, dataOf}
-use Rattle.tables.specs.Sums.{runSums, sums}
+use Rattle.frame.specs.Sums.{runSums, sums}
 use Rattle.tables.specs.Tables.{entryOf, MendTable, ByteSums}
-use Rattle.tables.proofs.Sums.{all-right, runs-xor, sums-low, sums-high}
+use Rattle.frame.proofs.Sums.{all-right, runs-xor, sums-low, sums-high}
 use Rattle.tables.proofs.Tables.{frameSums, frame-sums-xor, mend-entry}
 use Rattle.tables.proofs.Grown.{byte-turn}
 use Rattle.reader.specs.Answers.{Found, flag}

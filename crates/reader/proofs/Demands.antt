@@ -28,8 +28,8 @@ use Rattle.bch.proofs.Shown.{shown, places-short}
 use Rattle.bch.proofs.Nearest as bch
 use Rattle.bch.proofs.Built.{table}
 use Rattle.frame.specs.Word.{wordOf, padOf, RunsRight, Lawful, dataOf}
-use Rattle.tables.specs.Sums.{runSums}
-use Rattle.tables.proofs.Sums.{all-right}
+use Rattle.frame.specs.Sums.{runSums}
+use Rattle.frame.proofs.Sums.{all-right}
 use Rattle.reader.specs.Answers.{Found, flag}
 use Rattle.reader.specs.Reads.{ReadAs, NothingNear, BrokenNear, Reads}
 use Rattle.reader.specs.Claims.{SomeAnswer, OneAnswer, OneWord}

@@ -21,7 +21,7 @@ use Rattle.paper.specs.Numbers.{noWord, runBroken}
 use Rattle.paper.specs.Answer.{Answer, gives, refused}
 use Rattle.bch.specs.Corrections.{places, mask}
 use Rattle.frame.specs.Word.{wordOf, padOf, dataOf}
-use Rattle.tables.specs.Sums.{allRight}
+use Rattle.frame.specs.Sums.{allRight}
 use Rattle.tables.specs.Tables.{entryOf}
 use Rattle.reader.specs.Answers.{Found, flag}
 

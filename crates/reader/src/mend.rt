@@ -4,7 +4,7 @@ ghost use Prim.Native.Nat.{_<_, _%_};
 ghost use lib.Dec.{eqb};
 ghost use Rattle.bch.specs.Corrections.{places, mask};
 ghost use Rattle.frame.specs.Word.{wordOf};
-ghost use Rattle.tables.specs.Sums.{sums};
+ghost use Rattle.frame.specs.Sums.{sums};
 ghost use Rattle.reader.specs.Answers.{placesOf, answer};
 ghost use Rattle.reader.specs.Reads.{Reads};
 ghost use Rattle.reader.specs.ByTables.{asReceived, byEntry, mendBy};

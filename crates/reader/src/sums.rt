@@ -1,7 +1,7 @@
 // The sums that mending asks of a word: by division, or by a lent table, a byte at a time.
 ghost use mathlib.Core.Path.{_≡_};
 ghost use Prim.Native.Nat.{_+_, _/_, _%_, _^_, _<_};
-ghost use Rattle.tables.specs.Sums.{runSums, sums};
+ghost use Rattle.frame.specs.Sums.{runSums, sums};
 ghost use Rattle.reader.specs.ByTables.{sumsBy};
 
 pub(crate) fn wide(x: u16) -> u64

@@ -1,3 +1,2 @@
-pub mod Sums
 pub mod Grown
 pub mod Tables

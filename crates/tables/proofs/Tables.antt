@@ -24,10 +24,10 @@ use Rattle.laws.proofs.Xor.{xor-half}
 use Rattle.bch.specs.Corrections.{mask, Entry, Corrections}
 use Rattle.bch.proofs.Rule.{one-corrections}
 use Rattle.frame.specs.Word.{wordOf}
-use Rattle.tables.specs.Sums.{runSums, sums}
+use Rattle.frame.specs.Sums.{runSums, sums}
 use Rattle.tables.specs.Tables.{entryOf, MendTable, ByteSums}
 use Rattle.tables.specs.Claims.{OneMendTable, OneByteSums}
-use Rattle.tables.proofs.Sums.{sums-xor}
+use Rattle.frame.proofs.Sums.{sums-xor}
 use Rattle.tables.proofs.Grown.{rows, all-rows}
 
 abbrev pub frameSums : ℕ → ℕ

@@ -12,7 +12,7 @@ use Prim.Native.Nat.{ℕ, _+_, _*_, _/_, _%_, _^_, _<_}
 use lib.ListN.{length, getD}
 use Rattle.bch.specs.Corrections.{mask, Corrections}
 use Rattle.frame.specs.Word.{wordOf}
-use Rattle.tables.specs.Sums.{runSums, sums}
+use Rattle.frame.specs.Sums.{runSums, sums}
 
 abbrev pub entryOf : ℕ → ℕ
 entryOf n = n % 4096

@@ -1,7 +1,7 @@
 -- `tables::byte_sums` meets its contract: the constant is the table that grows from the powers of two.
 use mathlib.Core.Path.{refl}
 use Rattle.poly.specs.Poly.{rem}
-use Rattle.tables.specs.Sums.{runSums, sums}
+use Rattle.frame.specs.Sums.{runSums, sums}
 use Rattle.tables.proofs.Grown.{row, rows}
 use Rattle.tables.proofs.Tables.{is-byte-sums}
 use Rattle.tables.proofs.byte_sums.Statement.{statement}

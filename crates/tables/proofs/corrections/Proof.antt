@@ -2,7 +2,7 @@
 use mathlib.Core.Path.{refl}
 use Rattle.bch.specs.Corrections.{mask, filled, empty}
 use Rattle.bch.proofs.Rule.{sound?, whole?, is-corrections}
-use Rattle.tables.specs.Sums.{runSums}
+use Rattle.frame.specs.Sums.{runSums}
 use Rattle.tables.proofs.Tables.{runs?, is-mend-table}
 use Rattle.tables.proofs.corrections.Statement.{statement}
 use Rattle.tables.proofs.corrections.Tie as tie

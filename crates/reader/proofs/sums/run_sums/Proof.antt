@@ -2,7 +2,7 @@
 use mathlib.Core.Path.{ap₂}
 use Prim.Native.Nat.{ℕ, _+_, _*_}
 use borrow.Author.Needs.{needs}
-use Rattle.tables.specs.Sums.{runSums}
+use Rattle.frame.specs.Sums.{runSums}
 use Rattle.reader.proofs.sums.run_sums.Statement.{statement}
 use Rattle.reader.proofs.sums.run_sums.Tie as tie
 

@@ -3,8 +3,8 @@ use mathlib.Core.Path.{ap₂}
 use Prim.Native.Nat.{ℕ, _+_, _*_}
 use native.Mathlib.Omega.{arith}
 use borrow.Author.Needs.{needs}
-use Rattle.tables.specs.Sums.{sums}
-use Rattle.tables.proofs.Sums.{runs-lt}
+use Rattle.frame.specs.Sums.{sums}
+use Rattle.frame.proofs.Sums.{runs-lt}
 use Rattle.poly.proofs.Division.{rem-lt}
 use Rattle.reader.proofs.sums.sums_of.Statement.{statement}
 use Rattle.reader.proofs.sums.sums_of.Tie as tie

@@ -16,9 +16,9 @@ use Rattle.laws.proofs.Xor.{bit-lt, bit-ind, xor-odd, xor-digit, differ-sum}
 use Rattle.poly.specs.Poly.{rem}
 use Rattle.poly.proofs.Division.{rem-lt, rem-xor}
 use Rattle.bch.specs.Code.{position}
 use Rattle.frame.specs.Word.{RunsRight}
-use Rattle.tables.specs.Sums.{runSum, runSums, sums}
-use Rattle.tables.specs.Claims.{AllRight, SumsXor}
+use Rattle.frame.specs.Sums.{runSum, runSums, sums}
+use Rattle.frame.specs.Claims.{AllRight, SumsXor}
 
 -- a bit and the opposite of another have the sum 1
 sum-one : (a b : ℕ) → a < 2 → b < 2 → a ≡ 1 - b → (a + b) % 2 ≡ 1

@@ -18,7 +18,7 @@ use Rattle.poly.specs.Poly.{rem}
 use Rattle.poly.proofs.Division.{rem-xor, rem-small, rem-lt, leaves-nothing, is-divisible}
 use Rattle.bch.specs.Code.{CodeWord, position}
 use Rattle.bch.proofs.Nearest.{code-lt}
-use Rattle.frame.specs.Word.{wordOf, padOf, dataOf, Lawful, FrameOf}
+use Rattle.frame.specs.Word.{wordOf, padOf, dataOf, Lawful, FrameOf, padded}
 use Rattle.frame.specs.Claims.{SomeFrame, OneFrame, FrameHigh}
 use Rattle.frame.proofs.Fields.{data-laid, runs-laid, top, top-lt, same-top}
 
@@ -38,10 +38,6 @@ sent-code d h =
     ∙ rem-xor 63 t c
     ∙ ap (bitXor c) (rem-small 63 c (omega arith) b)
     ∙ xor-self c)
-
--- a word and the opposite of its last position
-abbrev pub padded : ℕ → ℕ
-padded w = w * 2 + (1 - w % 2)
 
 pub word-padded : (w : ℕ) → wordOf (padded w) ≡ w
 word-padded w = omega arith

@@ -4,6 +4,7 @@
 -- │ wordOf f    │ the first 63 positions of the frame f                            │
 -- │ padOf f     │ its position 63                                                  │
 -- │ opposite x  │ the opposite of the bit x                                        │
+-- │ padded w    │ the word w with its right pad, as a frame                        │
 -- │ RunsRight w │ positions 16, 33 and 50 are each the opposite of the bit just    │
 -- │             │ before                                                           │
 -- │ sixteen w i │ the sixteen positions that end with position i, as a number      │
@@ -27,6 +28,9 @@ padOf f = f % 2
 
 abbrev pub opposite : ℕ → ℕ
 opposite x = 1 - x
+
+abbrev pub padded : ℕ → ℕ
+padded w = w * 2 + opposite (w % 2)
 
 pub record RunsRight (w : ℕ) : Type 0 where
   pub at-16 : position w 16 ≡ opposite (position w 15)

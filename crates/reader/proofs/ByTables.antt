@@ -30,7 +30,8 @@ use Rattle.poly.specs.Poly.{rem}
 use Rattle.poly.proofs.Division.{rem-lt, is-divisible}
 use Rattle.bch.specs.Code.{position, differences}
 use Rattle.bch.specs.Corrections.{mask, places, Entry}
-use Rattle.frame.specs.Word.{wordOf, padOf, RunsRight, dataOf}
+use Rattle.frame.specs.Word.{wordOf, padOf, padded, dataOf}
+use Rattle.frame.proofs.Frames.{word-padded}
 use Rattle.frame.specs.Sums.{runSums, sums}
 use Rattle.tables.specs.Tables.{entryOf, MendTable, ByteSums}
 use Rattle.frame.proofs.Sums.{all-right, runs-xor, sums-low, sums-high}
@@ -38,7 +39,7 @@ use Rattle.tables.proofs.Tables.{frameSums, frame-sums-xor, mend-entry}
 use Rattle.tables.proofs.Grown.{byte-turn}
 use Rattle.reader.specs.Answers.{Found, flag}
 use Rattle.reader.specs.Reads.{Reads}
-use Rattle.reader.specs.ByTables.{byteOf, sumsBy, Mended, asReceived, byEntry, mendBy, lawfulBy, saidBy, readBy}
+use Rattle.reader.specs.ByTables.{byteOf, sumsBy, Mended, nearBy, asReceived, byEntry, mendBy, lawfulBy, saidBy, readBy}
 use Rattle.reader.specs.Claims.{ByTheTables, Numbers}
 use Rattle.reader.proofs.Demands.{mended, no-word, a-word, run-broken, received, received-broken}
 
@@ -58,75 +59,74 @@ module _ (b : List ℕ) (t : ByteSums b) where
   pub sums-by : (f : ℕ) → f < 2 ^ 64 → sumsBy b 8 f ≡ sums (wordOf f)
   sums-by f h = first-bytes 8 f (omega arith) ∙ ap frameSums (mod-eq-of-lt h)
 
--- position 62 is the last of a word
-last : (f w : ℕ) {d : ℕ} {ps : List ℕ}
-    → Reads f (gives (record { «data» = d; places = ps; pad = flag (eqb (padOf f) (position w 62)) }))
-    → Reads f (gives (record { «data» = d; places = ps; pad = flag (eqb (padOf f) (w % 2)) }))
-last f w {d} {ps} =
-    subst (λ (v : ℕ). Reads f (gives (record { «data» = d; places = ps; pad = flag (eqb (padOf f) (v % 2)) }))) (div-one w)
+-- a word is that of its frame, and position 62 its last
+framed : (f w : ℕ) {ps : List ℕ}
+    → Reads f (gives (record { «data» = dataOf w; places = ps; pad = flag (eqb (padOf f) (position w 62)) }))
+    → Reads f (gives (record { «data» = dataOf (wordOf (padded w)); places = ps; pad = flag (eqb (padOf f) (w % 2)) }))
+framed f w {ps} =
+    subst (Reads f)
+    (λ i. gives (record { «data» = dataOf (sym (word-padded w) i); places = ps; pad = flag (eqb (padOf f) (div-one w i % 2)) }))
 
 -- a mended word, by whether its run sums are right
 said : (f : ℕ) (m : Mended)
-    → (m .runs ≡ 7 → Reads f (gives (record { «data» = dataOf (m .sent); places = m .places; pad = flag (eqb (padOf f) (m .sent % 2)) })))
-    → ((m .runs ≡ 7 → ⊥) → Reads f (refused 14)) → Reads f (lawfulBy f m)
+    → (m .runs ≡ 7 → Reads f (gives (record { «data» = dataOf (wordOf (m .clean)); places = m .places; pad = m .pad })))
+    → ((m .runs ≡ 7 → ⊥) → Reads f (refused 14)) → Reads f (lawfulBy m)
 said f m p q = by (ℕ-discrete (m .runs) 7)
   where
     R : Bool → Type 0
-    R t =
-        Reads f
-        (cond t (gives (record { «data» = dataOf (m .sent); places = m .places; pad = flag (eqb (padOf f) (m .sent % 2)) })) (refused 14))
+    R t = Reads f (cond t (gives (record { «data» = dataOf (wordOf (m .clean)); places = m .places; pad = m .pad })) (refused 14))
 
-    by : Dec (m .runs ≡ 7) → Reads f (lawfulBy f m)
+    by : Dec (m .runs ≡ 7) → Reads f (lawfulBy m)
     by (yes e) = subst R (sym (eq-eqb (m .runs) 7 e)) (p e)
     by (no n) = subst R (sym (ne-eqb (m .runs) 7 n)) (q n)
 
 module _ (f : ℕ) (h : f < 2 ^ 64) where
-  pub read-received : sums (wordOf f) % 4096 ≡ 0 → Reads f (saidBy f (asReceived (sums (wordOf f)) f))
+  pub read-received : sums (wordOf f) % 4096 ≡ 0 → Reads f (saidBy (asReceived (sums (wordOf f)) f))
   read-received z =
-      said f (record { sent = wordOf f; places = []; runs = sums (wordOf f) / 4096 })
-      (λ e. last f (wordOf f) (received f h r (all-right (wordOf f) .1 (sym (sums-high (wordOf f)) ∙ e))))
+      said f (nearBy f (wordOf f) [] (sums (wordOf f) / 4096))
+      (λ e. framed f (wordOf f) (received f h r (all-right (wordOf f) .1 (sym (sums-high (wordOf f)) ∙ e))))
       (λ n. received-broken f h r (λ t. n (sums-high (wordOf f) ∙ all-right (wordOf f) .0 t)))
     where
       r : rem 63 (wordOf f) ≡ 0
       r = sym (sums-low (wordOf f)) ∙ z
 
   read-entry : (n : ℕ) → Entry (rem 63 (wordOf f)) (entryOf n) → n / 4096 ≡ runSums (mask (entryOf n))
-      → Reads f (saidBy f (byEntry n (sums (wordOf f)) f))
+      → Reads f (saidBy (byEntry n (sums (wordOf f)) f))
   read-entry n t r = by (ℕ-discrete (entryOf n) 0)
     where
       e : ℕ
       e = entryOf n
 
       near : Mended
-      near = record { sent = mended f e; places = places e; runs = bitXor (sums (wordOf f)) n / 4096 }
+      near = nearBy f (mended f e) (places e) (bitXor (sums (wordOf f)) n / 4096)
 
       R : Bool → Type 0
-      R b = Reads f (saidBy f (cond b (refused 13) (gives near)))
+      R b = Reads f (saidBy (cond b (refused 13) (gives near)))
 
       runs : bitXor (sums (wordOf f)) n / 4096 ≡ runSums (mended f e)
       runs = xor-shr (sums (wordOf f)) n 12 ∙ ap₂ bitXor (sums-high (wordOf f)) r ∙ sym (runs-xor (wordOf f) (mask e))
 
-      by : Dec (e ≡ 0) → Reads f (saidBy f (byEntry n (sums (wordOf f)) f))
+      by : Dec (e ≡ 0) → Reads f (saidBy (byEntry n (sums (wordOf f)) f))
       by (yes z) = subst R (sym (eq-eqb e 0 z)) (no-word f e h t z)
       by (no z) =
           subst R (sym (ne-eqb e 0 z))
           (said f near
-          (λ q. last f (mended f e) (a-word f e h t z (all-right (mended f e) .1 (sym runs ∙ q))))
+          (λ q. framed f (mended f e) (a-word f e h t z (all-right (mended f e) .1 (sym runs ∙ q))))
           (λ q. run-broken f e h t z (λ s. q (runs ∙ all-right (mended f e) .0 s))))
 
-  pub read-mended : (c : List ℕ) → MendTable c → Reads f (saidBy f (mendBy c (sums (wordOf f)) f))
+  pub read-mended : (c : List ℕ) → MendTable c → Reads f (saidBy (mendBy c (sums (wordOf f)) f))
   read-mended c m = by (ℕ-discrete (sums (wordOf f) % 4096) 0)
     where
       n : ℕ
       n = getD c (sums (wordOf f) % 4096) 0
 
       R : Bool → Type 0
-      R b = Reads f (saidBy f (cond b (asReceived (sums (wordOf f)) f) (byEntry n (sums (wordOf f)) f)))
+      R b = Reads f (saidBy (cond b (asReceived (sums (wordOf f)) f) (byEntry n (sums (wordOf f)) f)))
 
       i : sums (wordOf f) % 4096 < 4096
       i = mod-lt (sums (wordOf f)) (lit< tt)
 
-      by : Dec (sums (wordOf f) % 4096 ≡ 0) → Reads f (saidBy f (mendBy c (sums (wordOf f)) f))
+      by : Dec (sums (wordOf f) % 4096 ≡ 0) → Reads f (saidBy (mendBy c (sums (wordOf f)) f))
       by (yes z) = subst R (sym (eq-eqb (sums (wordOf f) % 4096) 0 z)) (read-received z)
       by (no z) =
           subst R (sym (ne-eqb (sums (wordOf f) % 4096) 0 z))
@@ -136,7 +136,7 @@ module _ (f : ℕ) (h : f < 2 ^ 64) where
 
 pub by-the-tables : ByTheTables
 unfolding readBy
-by-the-tables c b m t f h = subst (λ (x : ℕ). Reads f (saidBy f (mendBy c x f))) (sym (sums-by b t f h)) (read-mended f h c m)
+by-the-tables c b m t f h = subst (λ (x : ℕ). Reads f (saidBy (mendBy c x f))) (sym (sums-by b t f h)) (read-mended f h c m)
 
 module _ {c b : List ℕ} (m : MendTable c) (t : ByteSums b) where
   -- outputs that show the frames of a list, read by the tables, show an answer to each

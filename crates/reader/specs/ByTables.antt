@@ -2,13 +2,15 @@
 -- ┌─────────────────┬──────────────────────────────────────────────────────────────┐
 -- │ byteOf f k      │ byte k of a frame, counted from the lowest                   │
 -- │ sumsBy b n f    │ the sum of the entries of b for the n lowest bytes of f      │
--- │ Mended          │ a word, the places flipped to reach it, and its run sums     │
+-- │ Mended          │ a clean frame: a code word with its right pad; the places    │
+-- │                 │ flipped to reach it, the pad flag, and its run sums          │
+-- │ nearBy f w ps r │ that of the word w, reached from f by flips at ps            │
 -- │ asReceived x f  │ a word of remainder 0 is a code word as it came              │
 -- │ byEntry n x f   │ mended by the entry n and the run sums above it; 13 for none │
 -- │ mendBy c x f    │ the word of f, whose sums are x, mended by the entry of c    │
 -- │                 │ for its remainder                                            │
--- │ lawfulBy f m    │ what a mended word says: 14 where its run sums are not right │
--- │ saidBy f a      │ the same, of what mending answers                            │
+-- │ lawfulBy m      │ what a mended word says: 14 where its run sums are not right │
+-- │ saidBy a        │ the same, of what mending answers                            │
 -- │ readBy c b f    │ both                                                         │
 -- └─────────────────┴──────────────────────────────────────────────────────────────┘
 use mathlib.Core.Bool.{cond}
@@ -20,7 +22,7 @@ use lib.ListN.{getD}
 use Rattle.paper.specs.Numbers.{noWord, runBroken}
 use Rattle.paper.specs.Answer.{Answer, gives, refused}
 use Rattle.bch.specs.Corrections.{places, mask}
-use Rattle.frame.specs.Word.{wordOf, padOf, dataOf}
+use Rattle.frame.specs.Word.{wordOf, padOf, padded, dataOf}
 use Rattle.frame.specs.Sums.{allRight}
 use Rattle.tables.specs.Tables.{entryOf}
 use Rattle.reader.specs.Answers.{Found, flag}
@@ -33,32 +35,33 @@ sumsBy b zero f = 0
 sumsBy b (suc n) f = bitXor (sumsBy b n f) (getD b (n * 256 + byteOf f n) 0)
 
 pub record Mended : Type 0 where
-  pub sent : ℕ
+  pub clean : ℕ
   pub places : List ℕ
+  pub pad : ℕ
   pub runs : ℕ
 
--- a code word as it came
-abbrev pub asReceived : ℕ → ℕ → Answer Mended
-asReceived x f = gives (record { sent = wordOf f; places = []; runs = x / 4096 })
+-- the word w, reached from f by flips at the places ps
+abbrev pub nearBy : ℕ → ℕ → List ℕ → ℕ → Mended
+nearBy f w ps runs = record { clean = padded w; places = ps; pad = flag (eqb (padOf f) (w % 2)); runs = runs }
 
--- by an entry and the run sums above it
+abbrev pub asReceived : ℕ → ℕ → Answer Mended
+asReceived x f = gives (nearBy f (wordOf f) [] (x / 4096))
+
 abbrev pub byEntry : ℕ → ℕ → ℕ → Answer Mended
 byEntry n x f =
     cond (eqb (entryOf n) 0) (refused noWord)
-    (gives (record { sent = bitXor (wordOf f) (mask (entryOf n)); places = places (entryOf n); runs = bitXor x n / 4096 }))
+    (gives (nearBy f (bitXor (wordOf f) (mask (entryOf n))) (places (entryOf n)) (bitXor x n / 4096)))
 
 abbrev pub mendBy : List ℕ → ℕ → ℕ → Answer Mended
 mendBy c x f = cond (eqb (x % 4096) 0) (asReceived x f) (byEntry (getD c (x % 4096) 0) x f)
 
-abbrev pub lawfulBy : ℕ → Mended → Answer Found
-lawfulBy f m =
-    cond (eqb (m .runs) allRight)
-    (gives (record { «data» = dataOf (m .sent); places = m .places; pad = flag (eqb (padOf f) (m .sent % 2)) }))
-    (refused runBroken)
+abbrev pub lawfulBy : Mended → Answer Found
+lawfulBy m =
+    cond (eqb (m .runs) allRight) (gives (record { «data» = dataOf (wordOf (m .clean)); places = m .places; pad = m .pad })) (refused runBroken)
 
-abbrev pub saidBy : ℕ → Answer Mended → Answer Found
-saidBy f (gives m) = lawfulBy f m
-saidBy f (refused n) = refused n
+abbrev pub saidBy : Answer Mended → Answer Found
+saidBy (gives m) = lawfulBy m
+saidBy (refused n) = refused n
 
 unfoldable pub readBy : List ℕ → List ℕ → ℕ → Answer Found
-readBy c b f = saidBy f (mendBy c (sumsBy b 8 f) f)
+readBy c b f = saidBy (mendBy c (sumsBy b 8 f) f)

@@ -12,14 +12,14 @@ use Prim.Native.Nat.{ℕ}
 use Rattle.paper.specs.Answer.{Answer, gives, refused}
 use Rattle.laws.specs.Lent.{Lent, _over_}
 use Rattle.octets.specs.Octets.{bytesOf}
-use Rattle.reader.specs.Answers.{Found, placesOf}
+use Rattle.reader.specs.Answers.{Found, placesOf, flag}
 use Rattle.reader.specs.ByTables.{Mended, readBy}
 use Rattle.reader.specs.declared.mend.Mended.{Mended as Near-word}
 use Rattle.reader.specs.declared.mend.Mending.{Mending}
 use Rattle.reader.specs.declared.mend.Mending.the-variants.{Near, Refused}
 
 abbrev pub mended : Near-word → Mended
-mended m = record { sent = m .word; places = placesOf (m .flips); runs = m .runs }
+mended m = record { clean = m .clean; places = placesOf (m .flips); pad = flag (m .«pad_wrong»); runs = m .runs }
 
 abbrev pub mending : Mending → Answer Mended
 mending (Near m) = gives (mended m)

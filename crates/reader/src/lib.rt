@@ -43,7 +43,7 @@ pub fn read(frame: u64) -> Reading
 {
     let x = sums::sums_of(frame / 2);
     if x % 4096 == 0 {
-        return said::said(frame, mend::as_received(x, frame));
+        return said::said(mend::as_received(x, frame));
     }
     mend::by_own_table(x, frame)
 }
@@ -57,7 +57,7 @@ pub fn read_by(corrections: &[u16; 4096], sums: &[u16; 2048], frame: u64) -> Rea
     if x == said::CLEAN {
         return said::clean(frame);
     }
-    said::said(frame, mend::mend_by(corrections, x, frame))
+    said::said(mend::mend_by(corrections, x, frame))
 }
 
 fn how_many(w: Word) -> u8

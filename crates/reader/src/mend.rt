@@ -1,22 +1,22 @@
-// Mending, over all code words: the word within two flips, the places to reach it, its run sums.
+// Mending, over all code words: the clean frame within two flips, the places to reach it, its pad, its run sums.
 ghost use mathlib.Core.Path.{_≡_};
-ghost use Prim.Native.Nat.{_<_, _%_};
-ghost use lib.Dec.{eqb};
+ghost use Prim.Native.Nat.{_<_, _^_};
 ghost use Rattle.bch.specs.Corrections.{places, mask};
 ghost use Rattle.frame.specs.Word.{wordOf};
 ghost use Rattle.frame.specs.Sums.{sums};
 ghost use Rattle.reader.specs.Answers.{placesOf, answer};
 ghost use Rattle.reader.specs.Reads.{Reads};
-ghost use Rattle.reader.specs.ByTables.{asReceived, byEntry, mendBy};
-ghost use Rattle.reader.specs.Parts.{mending};
+ghost use Rattle.reader.specs.ByTables.{nearBy, asReceived, byEntry, mendBy};
+ghost use Rattle.reader.specs.Parts.{mended, mending};
 use crate::Flips;
 use crate::Reading;
 use crate::said;
 use crate::sums::wide;
 
 pub(crate) struct Mended {
-    pub(crate) word: u64,
+    pub(crate) clean: u64,
     pub(crate) flips: Flips,
+    pub(crate) pad_wrong: bool,
     pub(crate) runs: u64,
 }
 
@@ -52,15 +52,24 @@ fn flips_of(e: u64) -> Flips
     Flips::Two(a, b)
 }
 
+// The word w with its right pad, reached from the frame by these flips.
+fn near(frame: u64, w: u64, flips: Flips, runs: u64) -> Mended
+    requires { ⌜ w < 2 ^ 63 ⌝ }
+    ensures { λ m. ⌜ mended m ≡ nearBy frame w (placesOf flips) runs ⌝ }
+{
+    Mended {
+        clean: w * 2 + (1 - w % 2),
+        flips,
+        pad_wrong: frame % 2 == w % 2,
+        runs,
+    }
+}
+
 // A word of remainder 0 is a code word as it came.
 pub(crate) fn as_received(x: u64, frame: u64) -> Mending
     ensures { λ m. ⌜ mending m ≡ asReceived x frame ⌝ }
 {
-    Mending::Near(Mended {
-        word: frame / 2,
-        flips: Flips::Nowhere,
-        runs: x / 4096,
-    })
+    Mending::Near(near(frame, frame / 2, Flips::Nowhere, x / 4096))
 }
 
 // By an entry of the table of corrections, with the run sums of its flips above it.
@@ -71,11 +80,9 @@ fn by_entry(n: u64, x: u64, frame: u64) -> Mending
     if e == 0 {
         return Mending::Refused(paper::NO_WORD);
     }
-    Mending::Near(Mended {
-        word: (frame / 2) ^ mask(e),
-        flips: flips_of(e),
-        runs: (x ^ n) / 4096,
-    })
+    let w = (frame / 2) ^ mask(e);
+    let flips = flips_of(e);
+    Mending::Near(near(frame, w, flips, (x ^ n) / 4096))
 }
 
 // A frame whose word has the sums x.
@@ -94,5 +101,5 @@ pub(crate) fn by_own_table(x: u64, frame: u64) -> Reading
     ensures { λ r. ⌜ Reads frame (answer r) ⌝ }
 {
     let c = tables::corrections();
-    said::said(frame, mend_by(&c, x, frame))
+    said::said(mend_by(&c, x, frame))
 }

@@ -1,4 +1,4 @@
-// What a mended word says: its run bits, then its data.
+// What a clean frame says: its run bits, then its data.
 ghost use mathlib.Core.Path.{_≡_};
 ghost use Rattle.frame.specs.Word.{dataOf};
 ghost use Rattle.reader.specs.Answers.{answer};
@@ -25,15 +25,15 @@ fn data_in(w: u64) -> u64
 }
 
 // A code word: lawful, or 14.
-fn lawful(frame: u64, m: Mended) -> Reading
-    ensures { λ r. ⌜ answer r ≡ lawfulBy frame (mended m) ⌝ }
+fn lawful(m: Mended) -> Reading
+    ensures { λ r. ⌜ answer r ≡ lawfulBy (mended m) ⌝ }
 {
     if m.runs == ALL_RIGHT {
         let flips = m.flips;
         return Reading::Lawful(Word {
-            data: data_in(m.word),
+            data: data_in(m.clean / 2),
             flips,
-            pad_wrong: frame % 2 == m.word % 2,
+            pad_wrong: m.pad_wrong,
         });
     }
     Reading::Refused(paper::RUN_BROKEN)
@@ -41,7 +41,7 @@ fn lawful(frame: u64, m: Mended) -> Reading
 
 // A lawful word as it came.
 pub(crate) fn clean(frame: u64) -> Reading
-    ensures { λ r. ⌜ answer r ≡ saidBy frame (asReceived 0x7000 frame) ⌝ }
+    ensures { λ r. ⌜ answer r ≡ saidBy (asReceived 0x7000 frame) ⌝ }
 {
     let w = frame / 2;
     Reading::Lawful(Word {
@@ -51,11 +51,11 @@ pub(crate) fn clean(frame: u64) -> Reading
     })
 }
 
-pub(crate) fn said(frame: u64, m: Mending) -> Reading
-    ensures { λ r. ⌜ answer r ≡ saidBy frame (mending m) ⌝ }
+pub(crate) fn said(m: Mending) -> Reading
+    ensures { λ r. ⌜ answer r ≡ saidBy (mending m) ⌝ }
 {
     match m {
-        Mending::Near(m) => lawful(frame, m),
+        Mending::Near(m) => lawful(m),
         Mending::Refused(n) => Reading::Refused(n),
     }
 }

@@ -38,9 +38,11 @@ same-length c = search needs
 
 returns : tie.Need-returns
 returns c =
-    let a = c .before .before .before .before .before .before .before .before .before in
-    rw (c .flag-of .ensures, c .before .second-of .ensures, c .before .before .first-of .ensures, c .before .before .before .count-of .ensures)
-    (twelve (a .args .answer .now) (c .before .before .before .before .before .before .store .last .0) (a .args .w .«data») _ _ _ _ (a .pre .0) (c .before .before .before .before .before .before .store .ensures))
+    let n = c .before .before .before in
+    let t = n .before .before .before in
+    let a = t .before .before .before in
+    rw (c .flag-of .ensures, c .before .second-of .ensures, c .before .before .first-of .ensures, n .count-of .ensures)
+    (twelve (a .args .answer .now) (t .store .last .0) (a .args .w .«data») _ _ _ _ (a .pre .0) (t .store .ensures))
 
 pub lay-out-spec : {M : Type 1} → statement M
 lay-out-spec =

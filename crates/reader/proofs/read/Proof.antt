@@ -24,7 +24,7 @@ returns c =
     let a = t .before .before in
     let f = a .args .frame in
     subst (Reads f)
-    (sym (c .said .ensures ∙ ap (saidBy f) (c .before .as-received .ensures ∙ ap (λ (x : ℕ). asReceived x f) (s .ensures))))
+    (sym (c .said .ensures ∙ ap saidBy (c .before .as-received .ensures ∙ ap (λ (x : ℕ). asReceived x f) (s .ensures))))
     (read-received f (a .fits .frame .fits) (ap (λ (x : ℕ). x % 4096) (sym (s .ensures)) ∙ t .if1 .taken))
 
 by-own-table-requires : tie.Need-by-own-table-requires

@@ -17,7 +17,7 @@ unfolding readBy
 returns c =
     let a = c .before .before .before .args in
     let x = sym (c .before .before .sums-by .ensures) ∙ c .before .if1 .taken in
-    c .clean .ensures ∙ ap (λ (x : ℕ). saidBy (a .frame) (mendBy (a .corrections .now) x (a .frame))) (sym x)
+    c .clean .ensures ∙ ap (λ (x : ℕ). saidBy (mendBy (a .corrections .now) x (a .frame))) (sym x)
 
 mend-by-requires : tie.Need-mend-by-requires
 mend-by-requires c κs = search needs
@@ -30,7 +30,7 @@ unfolding readBy
 returns-2 c =
     let a = c .before .before .before .before .args in
     c .said .ensures
-    ∙ ap (saidBy (a .frame))
+    ∙ ap saidBy
     (c .before .mend-by .ensures ∙ ap (λ (x : ℕ). mendBy (a .corrections .now) x (a .frame)) (c .before .before .before .sums-by .ensures))
 
 pub read-by-spec : {M : Type 1} → statement M

@@ -4,9 +4,9 @@ use Prim.Native.Nat.{ℕ, _+_, _*_, _^_, _<_}
 use native.Mathlib.Omega.{arith}
 use borrow.Author.Needs.{needs}
 use Rattle.poly.specs.Poly.{rem}
-use Rattle.frame.specs.Word.{FrameOf}
+use Rattle.frame.specs.Word.{padded, FrameOf}
 use Rattle.frame.proofs.Fields.{top}
-use Rattle.frame.proofs.Frames.{sent, sent-lt, padded, made}
+use Rattle.frame.proofs.Frames.{sent, sent-lt, made}
 use Rattle.maker.proofs.layout.frame_of.Statement.{statement}
 use Rattle.maker.proofs.layout.frame_of.Tie as tie
 

@@ -1,7 +1,14 @@
 -- `reader::mend::by_entry` meets its contract, by whether there is an entry.
-use mathlib.Core.Path.{_≡_, refl}
+use mathlib.Core.Path.{_≡_, sym, ap, ap₂, _∙_, subst}
+use mathlib.Core.List.{List}
+use Prim.Native.Nat.{ℕ, _/_, _%_, _^_, _<_}
+use native.Mathlib.Omega.{arith}
 use borrow.Author.Tests.{eq-eqb, ne-eqb}
 use borrow.Author.Needs.{needs}
+use lib.Bits.{bitXor, xor-lt}
+use Rattle.paper.specs.Answer.{gives}
+use Rattle.bch.proofs.Spots.{mask-lt}
+use Rattle.reader.specs.ByTables.{nearBy}
 use Rattle.reader.proofs.mend.by_entry.Statement.{statement}
 use Rattle.reader.proofs.mend.by_entry.Tie as tie
 
@@ -14,8 +21,23 @@ mask-requires c κs = search needs
 flips-of-requires : tie.Need-flips-of-requires
 flips-of-requires c κs = search needs
 
+near-requires : tie.Need-near-requires
+near-requires c κs =
+    let a = c .before .before .before in
+    subst (λ (m : ℕ). bitXor (a .args .frame / 2) m < 2 ^ 63) (sym (c .before .mask .ensures))
+    (xor-lt 63 (a .args .frame / 2) _ (omega (arith, a .fits .frame .fits)) (mask-lt (a .args .n % 4096)))
+
 returns-2 : tie.Need-returns-2
-returns-2 c = simp (ne-eqb _ 0 (c .before .before .if1 .left), c .before .mask .ensures, c .flips-of .ensures)
+returns-2 c =
+    let f = c .before in
+    let m = f .before in
+    let a = m .before .before in
+    simp (ne-eqb _ 0 (m .before .if1 .left))
+    (ap gives
+    (c .near .ensures
+    ∙ ap₂ (λ (w : ℕ) (ps : List ℕ). nearBy (a .args .frame) w ps (bitXor (a .args .x) (a .args .n) / 4096))
+    (ap (bitXor (a .args .frame / 2)) (m .mask .ensures)) (f .flips-of .ensures)))
 
 pub by-entry-spec : {M : Type 1} → statement M
-by-entry-spec = tie.close (tie.spec returns mask-requires flips-of-requires returns-2)
+by-entry-spec =
+    tie.close (tie.spec returns mask-requires flips-of-requires near-requires returns-2)

@@ -23,7 +23,7 @@ returns c =
     let a = c .before .before .before .before in
     let f = a .args .frame in
     subst (Reads f)
-    (sym (c .said .ensures ∙ ap (saidBy f) (c .before .mend-by .ensures ∙ ap (λ (x : ℕ). mendBy (t .result) x f) (a .pre))))
+    (sym (c .said .ensures ∙ ap saidBy (c .before .mend-by .ensures ∙ ap (λ (x : ℕ). mendBy (t .result) x f) (a .pre))))
     (read-mended f (a .fits .frame .fits) (t .result) (t .ensures))
 
 pub by-own-table-spec : {M : Type 1} → statement M

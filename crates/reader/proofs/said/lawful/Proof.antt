@@ -9,7 +9,7 @@ data-in-requires : tie.Need-data-in-requires
 data-in-requires c κs = search needs
 
 returns : tie.Need-returns
-returns c = simp (eq-eqb _ 7 (c .before .before .if1 .taken), c .before .data-in .ensures)
+returns c = simp (eq-eqb _ 7 (c .before .before .if1 .taken), c .data-in .ensures)
 
 returns-2 : tie.Need-returns-2
 returns-2 c = simp (ne-eqb _ 7 (c .if1 .left))

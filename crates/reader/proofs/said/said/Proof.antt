@@ -18,10 +18,10 @@ enum-known-m-2 c = search needs
 
 returns : tie.Need-returns
 returns c =
-    c .lawful .ensures ∙ ap (λ (m : Mending). saidBy (c .before .before .before .before .args .frame) (mending m)) (sym (c .before .before .m .given .1))
+    c .lawful .ensures ∙ ap (λ (m : Mending). saidBy (mending m)) (sym (c .before .before .m .given .1))
 
 returns-2 : tie.Need-returns-2
-returns-2 c = ap (λ (m : Mending). saidBy (c .before .before .before .args .frame) (mending m)) (sym (c .before .m2 .given .1))
+returns-2 c = ap (λ (m : Mending). saidBy (mending m)) (sym (c .before .m2 .given .1))
 
 pub said-spec : {M : Type 1} → statement M
 said-spec = tie.close (tie.spec enum-known-m lawful-requires enum-known-m-2 returns returns-2)

@@ -48,14 +48,17 @@ loop-less c = omega arith
 loop-again : tie.Need-loop-again Inv-loop μ-loop
 unfolding sumsBy
 loop-again c =
-    let l = c .before .before .before .loop in (
+    let l = c .before .before .before in
+    let a = l .before .args in (
       omega arith,
-      ap₂ bitXor (l .inv .1) (c .wide .ensures .0) ∙ ap (λ (n : ℕ). sumsBy (c .before .before .before .before .args .b .now) n (c .before .before .before .before .args .frame)) (sym (add-one (l .k))),
+      ap₂ bitXor (l .loop .inv .1) (c .wide .ensures .0) ∙ ap (λ (n : ℕ). sumsBy (a .b .now) n (a .frame)) (sym (add-one (l .loop .k))),
     )
 
 returns : tie.Need-returns Inv-loop μ-loop
 returns c =
-    c .before .loop .inv .1 ∙ ap (λ (n : ℕ). sumsBy (c .before .before .args .b .now) n (c .before .before .args .frame)) (let e : c .before .loop .k ≡ 8 = omega arith in e)
+    let l = c .before in
+    let e : l .loop .k ≡ 8 = omega arith in
+    l .loop .inv .1 ∙ ap (λ (n : ℕ). sumsBy (l .before .args .b .now) n (l .before .args .frame)) e
 
 pub sums-by-spec : {M : Type 1} → statement M
 sums-by-spec =

@@ -1,7 +1,8 @@
 // Counts of the frame calls: this driver runs one of them once over the first n of a fixed store of frames, so that the
 // difference between n and 2n frames is the call's own work. See bench/run.
 //
-// usage: frame rattle|c make|read|pads|single|bytes-make|bytes-read n clean|one|two
+// usage: frame rattle|c|shifts make|read|pads|single|bytes-make|bytes-read n clean|one|two
+// "shifts" is read in C that takes a frame's bytes by shifts, and not from memory.
 #include "reader.h"
 
 #define STORE 8192
@@ -24,68 +25,96 @@ static uint8_t in_bytes[STORE * 8], out_bytes[STORE * 8];
 
 static uint64_t with_run(uint64_t x) { return x * 2 + (1 - x % 2); }
 
-static uint64_t c_make(uint64_t d)
+// by division, for the tables
+static uint64_t frame_of(uint64_t d)
 {
     uint64_t top = ((with_run(d >> 32) << 34) + (with_run((d >> 16) & 0xffff) << 17) + with_run(d & 0xffff)) << 12;
     uint64_t w = top + division(top);
     return w * 2 + (1 - w % 2);
 }
 
-__attribute__((noinline)) static uint64_t c_make_list(const uint64_t *d, size_t n, uint64_t *f)
+// The frame of each byte of data at its place, without that of 0: a frame is their sum and the frame of 0, which the lowest byte has.
+static uint64_t made[6][256];
+
+static void maker_tables(void)
 {
+    uint64_t none = frame_of(0);
+    for (int k = 0; k < 6; k++) {
+        made[k][0] = k == 0 ? none : 0;
+        for (int j = 0; j < 8; j++)
+            for (int b = 0; b < 1 << j; b++)
+                made[k][1 << j | b] = made[k][b] ^ frame_of(1ull << (8 * k + j)) ^ none;
+    }
+}
+
+static inline uint64_t c_make(uint64_t d)
+{
+    return made[0][d & 255] ^ made[1][d >> 8 & 255] ^ made[2][d >> 16 & 255] ^ made[3][d >> 24 & 255] ^ made[4][d >> 32 & 255]
+           ^ made[5][d >> 40];
+}
+
+static inline uint64_t c_make_at(const uint8_t *b)
+{
+    return made[5][b[2]] ^ made[4][b[3]] ^ made[3][b[4]] ^ made[2][b[5]] ^ made[1][b[6]] ^ made[0][b[7]];
+}
+
+__attribute__((noinline)) static uint64_t c_make_list(const uint64_t *restrict d, size_t n, uint64_t *restrict f)
+{
+    uint64_t all = 0;
     for (size_t i = 0; i < n; i++)
-        if (d[i] >> 48)
-            return 11;
+        all |= d[i];
+    if (all >> 48)
+        return 11;
     for (size_t i = 0; i < n; i++)
         f[i] = c_make(d[i]);
     return 0;
 }
 
-__attribute__((noinline)) static void c_read_list(const uint64_t *f, size_t n, uint64_t *d, uint8_t *v)
+__attribute__((noinline)) static void c_read_list(const uint64_t *restrict f, size_t n, uint64_t *restrict d, uint8_t *restrict v)
 {
     uint8_t pad;
     for (size_t i = 0; i < n; i++)
-        v[i] = c_read(f[i], &d[i], &pad);
+        v[i] = said(sums_in(f + i), f[i], d + i, &pad);
 }
 
-__attribute__((noinline)) static void c_read_list_pads(const uint64_t *f, size_t n, uint64_t *d, uint8_t *v, uint8_t *p)
+__attribute__((noinline)) static void c_read_list_by_shifts(const uint64_t *restrict f, size_t n, uint64_t *restrict d, uint8_t *restrict v)
+{
+    uint8_t pad;
+    for (size_t i = 0; i < n; i++)
+        v[i] = said(sums_of(f[i]), f[i], d + i, &pad);
+}
+
+__attribute__((noinline)) static void c_read_list_pads(const uint64_t *restrict f, size_t n, uint64_t *restrict d, uint8_t *restrict v,
+                                                       uint8_t *restrict p)
 {
     for (size_t i = 0; i < n; i++)
-        v[i] = c_read(f[i], &d[i], &p[i]);
+        v[i] = said(sums_in(f + i), f[i], d + i, p + i);
 }
 
-static uint64_t get(const uint8_t *b)
+__attribute__((noinline)) static uint64_t c_make_bytes(const uint8_t *restrict d, size_t n, uint8_t *restrict f)
 {
-    uint64_t x = 0;
-    for (int j = 0; j < 8; j++)
-        x = x << 8 | b[j];
-    return x;
-}
-
-static void put(uint8_t *b, uint64_t x)
-{
-    for (int j = 0; j < 8; j++)
-        b[j] = (uint8_t)(x >> (56 - 8 * j));
-}
-
-__attribute__((noinline)) static void c_make_bytes(const uint8_t *d, size_t n, uint8_t *f)
-{
+    uint64_t all = 0;
     for (size_t i = 0; i < n; i++)
-        if (get(d + 8 * i) >> 48)
-            return;
+        all |= get(d + 8 * i);
+    if (all >> 48)
+        return 11;
     for (size_t i = 0; i < n; i++)
-        put(f + 8 * i, c_make(get(d + 8 * i)));
+        put(f + 8 * i, c_make_at(d + 8 * i));
+    return 0;
 }
 
-__attribute__((noinline)) static void c_read_bytes(const uint8_t *f, size_t n, uint8_t *d, uint8_t *v)
+__attribute__((noinline)) static void c_read_bytes(const uint8_t *restrict f, size_t n, uint8_t *restrict d, uint8_t *restrict v)
 {
     uint64_t x;
     uint8_t pad;
     for (size_t i = 0; i < n; i++) {
-        v[i] = c_read(get(f + 8 * i), &x, &pad);
+        v[i] = said(sums_at(f + 8 * i), get(f + 8 * i), &x, &pad);
         put(d + 8 * i, x);
     }
 }
+
+// one frame a call; its tables are ready
+__attribute__((noinline)) static uint8_t c_read(uint64_t f, uint64_t *d, uint8_t *pad) { return said(sums_of(f), f, d, pad); }
 
 static void on_bytes(int ours, int make, size_t n)
 {
@@ -117,8 +146,9 @@ static void make_input(int flips)
     }
 }
 
-static void work(const char *call, int ours, size_t n)
+static void work(const char *call, const char *who, size_t n)
 {
+    int ours = !strcmp(who, "rattle");
     if (!strcmp(call, "make")) {
         if (ours)
             bench_make_list(data, n, out, STORE);
@@ -127,6 +157,8 @@ static void work(const char *call, int ours, size_t n)
     } else if (!strcmp(call, "read")) {
         if (ours)
             bench_read_list(frames, n, out, STORE, verdicts, STORE);
+        else if (!strcmp(who, "shifts"))
+            c_read_list_by_shifts(frames, n, out, verdicts);
         else
             c_read_list(frames, n, out, verdicts);
     } else if (!strcmp(call, "pads")) {
@@ -137,22 +169,25 @@ static void work(const char *call, int ours, size_t n)
     } else if (!strcmp(call, "bytes-make") || !strcmp(call, "bytes-read")) {
         on_bytes(ours, !strcmp(call, "bytes-make"), n);
     } else {
+        uint64_t d;
+        uint8_t pad;
         for (size_t i = 0; i < n; i++)
-            verdicts[i] = ours ? bench_read(frames[i]) : c_read(frames[i], &out[i], &pads[i]);
+            verdicts[i] = ours ? bench_read(frames[i]) : c_read(frames[i], &d, &pad);
     }
 }
 
 int main(int argc, char **argv)
 {
     if (argc != 5)
-        return puts("usage: frame rattle|c make|read|pads|single|bytes-make|bytes-read N clean|one|two"), 2;
+        return puts("usage: frame rattle|c|shifts make|read|pads|single|bytes-make|bytes-read N clean|one|two"), 2;
     size_t n = strtoul(argv[3], NULL, 10);
     uint64_t sum = 0;
     if (n > STORE)
         return 2;
     tables();
+    maker_tables();
     make_input(!strcmp(argv[4], "one") ? 1 : !strcmp(argv[4], "two") ? 2 : 0);
-    work(argv[2], !strcmp(argv[1], "rattle"), n);
+    work(argv[2], argv[1], n);
     for (size_t i = 0; i < STORE; i++)
         sum += out[i] * 31 + verdicts[i] + pads[i];
     return printf("%llu\n", (unsigned long long)sum) < 0;

@@ -20,11 +20,8 @@ int main(void)
                 break;
         }
         for (size_t i = 0; i + 8 <= have; i += 8) {
-            uint64_t f = 0;
             uint8_t pad;
-            for (int j = 0; j < 8; j++)
-                f = f << 8 | buffer[i + (size_t)j];
-            counts[c_read(f, &data, &pad)]++;
+            counts[said(sums_at(buffer + i), get(buffer + i), &data, &pad)]++;
             pads += pad;
             frames++;
         }

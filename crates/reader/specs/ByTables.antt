@@ -57,7 +57,9 @@ mendBy c x f = cond (eqb (x % 4096) 0) (asReceived x f) (byEntry (getD c (x % 40
 
 abbrev pub lawfulBy : Mended → Answer Found
 lawfulBy m =
-    cond (eqb (m .runs) allRight) (gives (record { «data» = dataOf (wordOf (m .clean)); places = m .places; pad = m .pad })) (refused runBroken)
+    cond (eqb (m .runs) allRight)
+    (gives (record { «data» = dataOf (wordOf (m .clean)); places = m .places; pad = m .pad }))
+    (refused runBroken)
 
 abbrev pub saidBy : Answer Mended → Answer Found
 saidBy (gives m) = lawfulBy m

@@ -23,6 +23,7 @@ mod wires;
 
 use input::Input;
 use libc::STDERR_FILENO;
+use libc::STDIN_FILENO;
 use libc::STDOUT_FILENO;
 
 fn on_lists<'a>(kind: u64, head: &[u8], first: &'a [u8], second: &'a [u8]) {
@@ -70,11 +71,11 @@ fn whole(i: Input) -> bool {
 // One case, answered; whether there may be another.
 fn turn(buffer: &mut [u8]) -> bool {
     let mut head = [0u8; 96];
-    if !whole(input::load(&mut head)) {
+    if !whole(input::load(STDIN_FILENO, &mut head)) {
         return false;
     }
     let k = fields::within(&head, 3, buffer);
-    input::load(&mut buffer[..k]);
+    input::load(STDIN_FILENO, &mut buffer[..k]);
     let n = fields::within(&head, 4, buffer);
     lent(&head, &mut buffer[..n]);
     io::write_all(STDOUT_FILENO, b"\n");

@@ -1,8 +1,7 @@
-// Standard input, for programs.
+// What programs read, a buffer at a time.
 ghost use mathlib.Core.Path.{_≡_};
 ghost use Rattle.input.specs.Calls.{Fits};
 ghost use Rattle.input.specs.Parts.{negative, cameOf, stepOf};
-use libc::STDIN_FILENO;
 
 // What became of a buffer: the input filled it, or ended after so many bytes, or could not be read.
 pub enum Input {
@@ -42,13 +41,13 @@ fn after_read(got: isize, n: usize, have: usize, size: usize) -> Step
     came(n, have, size)
 }
 
-// Reads until the buffer is full or the input ends. A read may hand over any number of bytes.
-pub fn load(buffer: &mut [u8]) -> Input
+// Reads from the descriptor fd until the buffer is full or the input ends. A read may hand over any number of bytes.
+pub fn load(fd: i32, buffer: &mut [u8]) -> Input
     ensures { λ r. ⌜ Fits r (now (buffer .exit)) ⌝ }
 {
     let mut have = 0;
     while have < buffer.len() {
-        let got = libc::read(STDIN_FILENO, &mut buffer[have..]);
+        let got = libc::read(fd, &mut buffer[have..]);
         let n = io::count(got, &buffer[have..]);
         match after_read(got, n, have, buffer.len()) {
             Step::More(filled) => {

@@ -22,10 +22,10 @@ fits (Last k) have bs e h =
 fits Failed have bs e h = tt
 
 abbrev Inv-loop : tie.InvT-loop
-Inv-loop buffer₀ have₀ buffer have = (have ≤ length buffer) × (length buffer ≡ length buffer₀)
+Inv-loop fd buffer₀ have₀ buffer have = (have ≤ length buffer) × (length buffer ≡ length buffer₀)
 
 abbrev μ-loop : tie.MeasureT-loop
-μ-loop buffer₀ have₀ buffer have = length buffer - have
+μ-loop fd buffer₀ have₀ buffer have = length buffer - have
 
 loop-holds : tie.Need-loop-holds Inv-loop μ-loop
 loop-holds c = search needs

@@ -3,10 +3,10 @@ use mathlib.Core.Path.{refl, sym, subst}
 use borrow.Author.Needs.{needs}
 use Rattle.input.specs.Calls.{Fits}
 use Rattle.input.specs.declared.Input.{Input}
-use Rattle.listing.specs.Parts.{TurnsTo}
-use Rattle.listing.specs.declared.State.the-variants.{Unread}
-use Rattle.listing.proofs.turned.Statement.{statement}
-use Rattle.listing.proofs.turned.Tie as tie
+use Rattle.desk.specs.Parts.{TurnsTo}
+use Rattle.desk.specs.declared.counting.State.the-variants.{Unread}
+use Rattle.desk.proofs.counting.turned.Statement.{statement}
+use Rattle.desk.proofs.counting.turned.Tie as tie
 
 enum-told : tie.Need-enum-told
 enum-told c = search needs

@@ -1,9 +1,9 @@
 -- `counted` goes by the count's answer and by whether the buffer was the last.
 use mathlib.Core.Path.{sym, ap₂}
 use borrow.Author.Needs.{needs}
-use Rattle.listing.specs.Parts.{stateOf}
-use Rattle.listing.proofs.counted.Statement.{statement}
-use Rattle.listing.proofs.counted.Tie as tie
+use Rattle.desk.specs.Parts.{stateOf}
+use Rattle.desk.proofs.counting.counted.Statement.{statement}
+use Rattle.desk.proofs.counting.counted.Tie as tie
 
 enum-known-c : tie.Need-enum-known-c
 enum-known-c c = search needs

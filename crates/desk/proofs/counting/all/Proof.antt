@@ -1,13 +1,13 @@
--- `listing::all` is safe and ends: the turns fall.
+-- `all` is safe and ends: the turns fall.
 use borrow.Author.Needs.{needs}
-use Rattle.listing.proofs.all.Statement.{statement}
-use Rattle.listing.proofs.all.Tie as tie
+use Rattle.desk.proofs.counting.all.Statement.{statement}
+use Rattle.desk.proofs.counting.all.Tie as tie
 
 abbrev Inv-loop : tie.InvT-loop
-Inv-loop state₀ turns₀ state turns = Unit
+Inv-loop fd state₀ turns₀ state turns = Unit
 
 abbrev μ-loop : tie.MeasureT-loop
-μ-loop state₀ turns₀ state turns = turns
+μ-loop fd state₀ turns₀ state turns = turns
 
 fresh-requires : tie.Need-fresh-requires Inv-loop μ-loop
 fresh-requires c κs = search needs

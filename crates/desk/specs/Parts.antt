@@ -1,4 +1,4 @@
--- What only private functions cite: what the run of the listing comes to, buffer by buffer.
+-- What only private functions cite: what a count comes to, buffer by buffer.
 -- ┌────────────────┬────────────────────────────────────────────────────────────────┐
 -- │ ended last u   │ the totals of the whole input, or so far                       │
 -- │ stateOf c last │ what a counted buffer comes to; a refusal of the count ends    │
@@ -6,12 +6,15 @@
 -- │ TurnsTo t bs i │ what the buffer bs comes to that i became of: all of it is     │
 -- │   r            │ counted and more may follow, or its first bytes and they are   │
 -- │                │ the last, or nothing is                                        │
+-- │ Said r         │ the status 1, where something was said on standard error. That │
+-- │                │ it is a status follows, and is stated for callers to find      │
 -- └────────────────┴────────────────────────────────────────────────────────────────┘
 use mathlib.Core.Path.{_≡_}
 use mathlib.Core.Bool.{Bool, true, false}
 use mathlib.Core.List.{List}
 use Prim.Native.Nat.{ℕ}
 use lib.ListN.{take}
+use lib.IntN.{ℤ, pos}
 use Rattle.input.specs.declared.Input.{Input}
 use Rattle.input.specs.declared.Input.the-variants.{Full, Last, Failed}
 use Rattle.tally.specs.declared.Tally.{Tally}
@@ -20,8 +23,9 @@ use Rattle.lane.specs.Calls.{CountsPiece}
 use Rattle.lane.specs.declared.Totals.{Totals}
 use Rattle.lane.specs.declared.Counted.{Counted}
 use Rattle.lane.specs.declared.Counted.the-variants as count
-use Rattle.listing.specs.declared.State.{State}
-use Rattle.listing.specs.declared.State.the-variants.{More, Done, Unread, Refused}
+use Rattle.desk.specs.Calls.{Status}
+use Rattle.desk.specs.declared.counting.State.{State}
+use Rattle.desk.specs.declared.counting.State.the-variants.{More, Done, Unread, Refused}
 
 abbrev pub ended : Bool → Totals → State
 ended true u = Done u
@@ -35,3 +39,6 @@ abbrev pub TurnsTo : Tally → List ℕ → Input → State → Type 0
 TurnsTo t bs Full r = (c : Counted) × CountsPiece t bs (answer c) × (r ≡ stateOf c false)
 TurnsTo t bs (Last n) r = (c : Counted) × CountsPiece t (take n bs) (answer c) × (r ≡ stateOf c true)
 TurnsTo t bs Failed r = r ≡ Unread
+
+abbrev pub Said : ℤ → Type 0
+Said r = (r ≡ pos 1) × Status r

@@ -1,0 +1,98 @@
+// What the listing does with its input, and what it says where it cannot.
+ghost use Rattle.desk.specs.Calls.{Status};
+ghost use Rattle.desk.specs.Parts.{Said};
+use crate::DONE;
+use crate::SAID;
+use crate::counting;
+use crate::counting::State;
+use lane::Totals;
+use libc::STDERR_FILENO;
+use libc::STDOUT_FILENO;
+
+// A line on standard error: it cannot do that with this, and why, as the last call that failed tells it.
+fn cannot(do_it: &[u8], this: &[u8]) -> i32
+    ensures { λ r. ⌜ Said r ⌝ }
+{
+    io::write_all(STDERR_FILENO, do_it);
+    os::fail(this);
+    SAID
+}
+
+fn say(line: &[u8]) -> i32
+    ensures { λ r. ⌜ Said r ⌝ }
+{
+    io::write_all(STDERR_FILENO, line);
+    SAID
+}
+
+pub(crate) fn usage() -> i32
+    ensures { λ r. ⌜ Said r ⌝ }
+{
+    say(b"usage: listing [FILE]; without FILE it counts the frames on standard input\n")
+}
+
+// The report, written whole. What a file system takes back later it tells when the output is closed.
+fn print(u: Totals) -> i32
+    ensures { λ r. ⌜ Status r ⌝ }
+{
+    let mut text = [0u8; 256];
+    let n = report::text(u, &mut text);
+    if !io::write_all(STDOUT_FILENO, &text[..n]) {
+        return cannot(b"listing: cannot write ", b"the whole report");
+    }
+    if libc::close(STDOUT_FILENO) < 0 {
+        return cannot(b"listing: cannot write ", b"the whole report");
+    }
+    DONE
+}
+
+pub(crate) fn report_of(fd: i32, name: &[u8]) -> i32
+    ensures { λ r. ⌜ Status r ⌝ }
+{
+    match counting::all(fd) {
+        State::Done(u) => print(u),
+        State::More(_) => say(b"listing: the input has no end\n"),
+        State::Unread => cannot(b"listing: cannot read ", name),
+        State::Refused => say(b"listing: more than 2^53 - 1 frames\n"),
+    }
+}
+
+// A byte as it is shown: a control character, such as a line end, is a question mark.
+fn shown(b: u8) -> u8 {
+    if b < b' ' { b'?' } else { b }
+}
+
+// A name that stays on its line.
+fn show(name: &mut [u8]) {
+    let mut i = 0;
+    while i < name.len() {
+        name[i] = shown(name[i]);
+        i += 1;
+    }
+}
+
+fn report_of_path(path: &mut [u8]) -> i32
+    ensures { λ r. ⌜ Status r ⌝ }
+{
+    let fd = os::open_read(path);
+    show(path);
+    if fd < 0 {
+        return cannot(b"listing: cannot open ", path);
+    }
+    report_of(fd, path)
+}
+
+// The file that the first argument names. What begins with '-' asks for something that there is not.
+pub(crate) fn report_of_file() -> i32
+    ensures { λ r. ⌜ Status r ⌝ }
+{
+    let mut path = io::buffer();
+    let n = os::arg(1, &mut path);
+    if os::errno() != 0 {
+        return cannot(b"listing: cannot open ", b"the file");
+    }
+    if path[0] == b'-' {
+        return usage();
+    }
+    report_of_path(&mut path[..n])
+}

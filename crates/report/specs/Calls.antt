@@ -1,0 +1,18 @@
+-- What `text` owes.
+-- ┌───────────────┬────────────────────────────────────────────────────────────────┐
+-- │ Says u o₀ n o │ the report of u is the first n bytes of o, which is o₀ past    │
+-- │               │ them                                                           │
+-- └───────────────┴────────────────────────────────────────────────────────────────┘
+use mathlib.Core.Path.{_≡_}
+use mathlib.Core.List.{List}
+use Prim.Native.Nat.{ℕ}
+use lib.ListN.{length}
+use Rattle.io.specs.Counts.{Counts}
+use Rattle.laws.specs.Lent.{_over_}
+use Rattle.lane.specs.declared.Totals.{Totals}
+use Rattle.report.specs.Text.{text}
+
+pub record Says (u : Totals) (o₀ : List ℕ) (n : ℕ) (o : List ℕ) : Type 0 where
+  pub size : n ≡ length (text u)
+  pub bytes : o ≡ text u over o₀
+  pub room : Counts n o

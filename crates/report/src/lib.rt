@@ -1,0 +1,58 @@
+// The report of a lane: the text that the listing prints.
+ghost use mathlib.Core.List.{_++_};
+ghost use Prim.Native.Nat.{_+_, _≤_};
+ghost use lib.ListN.{length};
+ghost use Rattle.report.specs.Text.{ascii, decimal, tallyLines};
+ghost use Rattle.report.specs.Calls.{Says};
+ghost use Rattle.report.specs.Parts.{Inlays};
+use lane::Totals;
+use tally::Tally;
+
+// Puts `piece` into `out` from place `at` on, and answers the place after it.
+fn put(out: &mut [u8], at: usize, piece: &[u8]) -> usize
+    requires { ⌜ at + length (now piece) ≤ length (now out) ⌝ }
+    ensures { λ r. ⌜ Inlays (now (out .entry)) at (now (piece .entry)) r (now (out .exit)) ⌝ }
+{
+    let mut i = 0;
+    while i < piece.len() {
+        out[at + i] = piece[i];
+        i += 1;
+    }
+    at + i
+}
+
+// The line of n. A number has at most twenty digits.
+fn line(out: &mut [u8], at: usize, name: &[u8], n: u64) -> usize
+    requires { ⌜ at + length (now name) + 21 ≤ length (now out) ⌝ }
+    ensures { λ r. ⌜ Inlays (now (out .entry)) at (now (name .entry) ++ decimal n ++ ascii "\n") r (now (out .exit)) ⌝ }
+    ensures { λ r. ⌜ r ≤ at + length (now (name .entry)) + 21 ⌝ }
+{
+    let mut digits = [0u8; 20];
+    let k = io::decimal(n, &mut digits);
+    let named = put(out, at, name);
+    let spelled = put(out, named, &digits[..k]);
+    put(out, spelled, b"\n")
+}
+
+// The lines of a tally, 169 bytes at most.
+fn tally_lines(out: &mut [u8], at: usize, t: Tally) -> usize
+    requires { ⌜ at + 169 ≤ length (now out) ⌝ }
+    ensures { λ r. ⌜ Inlays (now (out .entry)) at (tallyLines t) r (now (out .exit)) ⌝ }
+    ensures { λ r. ⌜ r ≤ at + 169 ⌝ }
+{
+    let clean = line(out, at, b"clean ", t.clean);
+    let one = line(out, clean, b"one ", t.one);
+    let two = line(out, one, b"two ", t.two);
+    let no_word = line(out, two, b"no-word ", t.no_word);
+    let run_broken = line(out, no_word, b"run-broken ", t.run_broken);
+    line(out, run_broken, b"pad-wrong ", t.pad_wrong)
+}
+
+// Puts the report of u at the start of `out`, and answers its length, 228 at most.
+pub fn text(u: Totals, out: &mut [u8; 256]) -> usize
+    ensures { λ r. ⌜ Says u (now (out .entry)) r (now (out .exit)) ⌝ }
+{
+    let frames = line(out, 0, b"frames ", u.frames);
+    let counts = tally_lines(out, frames, u.tally);
+    line(out, counts, b"left-over ", u.left)
+}

@@ -10,17 +10,17 @@ const DONE: i32 = 0;
 // Something was said on standard error.
 const SAID: i32 = 1;
 
-// listing [FILE]: the report of the frames in FILE, or on standard input.
+// listing [FILE]: the listing of the frames in FILE, or on standard input.
 #[no_mangle]
 pub extern "C" fn lks_listing() -> i32
     ensures { λ r. ⌜ Status r ⌝ }
 {
     let words = os::arg_count();
     if words < 2 {
-        return listing::report_of(libc::STDIN_FILENO, b"standard input");
+        return listing::listing_of(libc::STDIN_FILENO, b"standard input");
     }
     if words > 2 {
         return listing::usage();
     }
-    listing::report_of_file()
+    listing::listing_of_file()
 }

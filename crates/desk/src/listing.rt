@@ -31,22 +31,22 @@ pub(crate) fn usage() -> i32
     say(b"usage: listing [FILE]; without FILE it counts the frames on standard input\n")
 }
 
-// The report, written whole. What a file system takes back later it tells when the output is closed.
+// The listing, written whole. What a file system takes back later it tells when the output is closed.
 fn print(u: Totals) -> i32
     ensures { λ r. ⌜ Status r ⌝ }
 {
     let mut text = [0u8; 256];
-    let n = report::text(u, &mut text);
+    let n = printout::text(u, &mut text);
     if !io::write_all(STDOUT_FILENO, &text[..n]) {
-        return cannot(b"listing: cannot write ", b"the whole report");
+        return cannot(b"listing: cannot write ", b"the whole listing");
     }
     if libc::close(STDOUT_FILENO) < 0 {
-        return cannot(b"listing: cannot write ", b"the whole report");
+        return cannot(b"listing: cannot write ", b"the whole listing");
     }
     DONE
 }
 
-pub(crate) fn report_of(fd: i32, name: &[u8]) -> i32
+pub(crate) fn listing_of(fd: i32, name: &[u8]) -> i32
     ensures { λ r. ⌜ Status r ⌝ }
 {
     match counting::all(fd) {
@@ -71,7 +71,7 @@ fn show(name: &mut [u8]) {
     }
 }
 
-fn report_of_path(path: &mut [u8]) -> i32
+fn listing_of_path(path: &mut [u8]) -> i32
     ensures { λ r. ⌜ Status r ⌝ }
 {
     let fd = os::open_read(path);
@@ -79,11 +79,11 @@ fn report_of_path(path: &mut [u8]) -> i32
     if fd < 0 {
         return cannot(b"listing: cannot open ", path);
     }
-    report_of(fd, path)
+    listing_of(fd, path)
 }
 
 // The file that the first argument names. What begins with '-' asks for something that there is not.
-pub(crate) fn report_of_file() -> i32
+pub(crate) fn listing_of_file() -> i32
     ensures { λ r. ⌜ Status r ⌝ }
 {
     let mut path = io::buffer();
@@ -94,5 +94,5 @@ pub(crate) fn report_of_file() -> i32
     if path[0] == b'-' {
         return usage();
     }
-    report_of_path(&mut path[..n])
+    listing_of_path(&mut path[..n])
 }

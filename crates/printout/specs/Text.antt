@@ -1,4 +1,4 @@
--- The report of a lane, as bytes: eight lines, each a name, a number in decimal and a line end.
+-- The listing of a lane, as bytes: eight lines, each a name, a number in decimal and a line end.
 -- ┌─────────────┬──────────────────────────────────────────────────────────────────┐
 -- │ ascii s     │ the codes of the characters of the text s                        │
 -- │ spelled k n │ the digits of n, k at most: of a number below ten itself, of any │
@@ -7,7 +7,7 @@
 -- │ line name n │ the line of one number                                           │
 -- │ tallyLines  │ those of the tally t                                             │
 -- │   t         │                                                                  │
--- │ text u      │ the report of the totals u                                       │
+-- │ text u      │ the listing of the totals u                                      │
 -- └─────────────┴──────────────────────────────────────────────────────────────────┘
 use mathlib.Core.Bool.{cond}
 use mathlib.Core.List.{List, [], _∷_, _++_}

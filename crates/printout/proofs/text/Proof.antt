@@ -1,10 +1,10 @@
 -- `text` lays the lines one after another from the start on.
 use native.Mathlib.Omega.{arith}
 use borrow.Author.Needs.{needs}
-use Rattle.report.specs.Text.{ascii, line, tallyLines, text}
-use Rattle.report.proofs.Laying.{then, says}
-use Rattle.report.proofs.text.Statement.{statement}
-use Rattle.report.proofs.text.Tie as tie
+use Rattle.printout.specs.Text.{ascii, line, tallyLines, text}
+use Rattle.printout.proofs.Laying.{then, says}
+use Rattle.printout.proofs.text.Statement.{statement}
+use Rattle.printout.proofs.text.Tie as tie
 
 returns : tie.Need-returns
 unfolding ascii line tallyLines text

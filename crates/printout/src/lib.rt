@@ -1,10 +1,10 @@
-// The report of a lane: the text that the listing prints.
+// The text of a listing: what is printed of the totals of a lane.
 ghost use mathlib.Core.List.{_++_};
 ghost use Prim.Native.Nat.{_+_, _≤_};
 ghost use lib.ListN.{length};
-ghost use Rattle.report.specs.Text.{ascii, decimal, tallyLines};
-ghost use Rattle.report.specs.Calls.{Says};
-ghost use Rattle.report.specs.Parts.{Inlays};
+ghost use Rattle.printout.specs.Text.{ascii, decimal, tallyLines};
+ghost use Rattle.printout.specs.Calls.{Says};
+ghost use Rattle.printout.specs.Parts.{Inlays};
 use lane::Totals;
 use tally::Tally;
 
@@ -48,7 +48,7 @@ fn tally_lines(out: &mut [u8], at: usize, t: Tally) -> usize
     line(out, run_broken, b"pad-wrong ", t.pad_wrong)
 }
 
-// Puts the report of u at the start of `out`, and answers its length, 228 at most.
+// Puts the listing of u at the start of `out`, and answers its length, 228 at most.
 pub fn text(u: Totals, out: &mut [u8; 256]) -> usize
     ensures { λ r. ⌜ Says u (now (out .entry)) r (now (out .exit)) ⌝ }
 {

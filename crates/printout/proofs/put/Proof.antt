@@ -6,10 +6,10 @@ use native.Mathlib.Omega.{arith}
 use borrow.Author.Needs.{needs}
 use lib.ListN.{length, getD, set, take, length-set}
 use lib.Seq.{take-all}
-use Rattle.report.specs.Parts.{inlaid}
-use Rattle.report.proofs.Laying.{inlaid-none, inlaid-more}
-use Rattle.report.proofs.put.Statement.{statement}
-use Rattle.report.proofs.put.Tie as tie
+use Rattle.printout.specs.Parts.{inlaid}
+use Rattle.printout.proofs.Laying.{inlaid-none, inlaid-more}
+use Rattle.printout.proofs.put.Statement.{statement}
+use Rattle.printout.proofs.put.Tie as tie
 
 abbrev Inv-loop : tie.InvT-loop
 Inv-loop out₀ at piece i₀ out i = (i ≤ length piece) × (length out ≡ length out₀) × (out ≡ inlaid at (take i piece) out₀)

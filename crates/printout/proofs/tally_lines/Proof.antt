@@ -1,10 +1,10 @@
 -- `tally_lines` lays the lines one after another.
 use native.Mathlib.Omega.{arith}
 use borrow.Author.Needs.{needs}
-use Rattle.report.specs.Text.{ascii, line, tallyLines}
-use Rattle.report.proofs.Laying.{then}
-use Rattle.report.proofs.tally_lines.Statement.{statement}
-use Rattle.report.proofs.tally_lines.Tie as tie
+use Rattle.printout.specs.Text.{ascii, line, tallyLines}
+use Rattle.printout.proofs.Laying.{then}
+use Rattle.printout.proofs.tally_lines.Statement.{statement}
+use Rattle.printout.proofs.tally_lines.Tie as tie
 
 returns : tie.Need-returns
 unfolding ascii line tallyLines

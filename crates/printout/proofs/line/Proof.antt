@@ -5,12 +5,12 @@ use Prim.Native.Nat.{ℕ, _+_, _≤_}
 use native.Mathlib.Omega.{arith}
 use borrow.Author.Needs.{needs}
 use lib.ListN.{length, take}
-use Rattle.report.specs.Text.{ascii, decimal}
-use Rattle.report.specs.Parts.{Inlays}
-use Rattle.report.proofs.Laying.{then, inlay-length}
-use Rattle.report.proofs.Digits.{twenty, spelled-least}
-use Rattle.report.proofs.line.Statement.{statement}
-use Rattle.report.proofs.line.Tie as tie
+use Rattle.printout.specs.Text.{ascii, decimal}
+use Rattle.printout.specs.Parts.{Inlays}
+use Rattle.printout.proofs.Laying.{then, inlay-length}
+use Rattle.printout.proofs.Digits.{twenty, spelled-least}
+use Rattle.printout.proofs.line.Statement.{statement}
+use Rattle.printout.proofs.line.Tie as tie
 
 -- the digits are few
 few : (c : tie.After-decimal) → length (take (c .decimal .result) (c .decimal .last .1 .0)) ≤ 20

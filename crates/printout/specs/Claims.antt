@@ -1,16 +1,17 @@
 -- What is proved beside the contract.
 -- ┌───────────────┬────────────────────────────────────────────────────────────────┐
--- │ worth ds      │ the number that digits in ASCII are                            │
+-- │ worth n ds    │ the number that digits in ASCII are, after those of n          │
+-- │ three         │ the totals of the paper's three frames                         │
 -- │ PapersListing │ the eight lines that the paper prints                          │
 -- │ DigitsBack    │ the digits of a 64-bit number are worth that number            │
--- │ OneReport     │ no second length or bytes meet the contract                    │
+-- │ OneText       │ no second length or bytes meet the contract                    │
 -- └───────────────┴────────────────────────────────────────────────────────────────┘
 use mathlib.Core.Path.{_≡_}
 use mathlib.Core.List.{List, [], _∷_}
 use Prim.Native.Nat.{ℕ, _+_, _*_, _-_, _^_, _<_}
 use Rattle.lane.specs.declared.Totals.{Totals}
-use Rattle.report.specs.Text.{ascii, decimal, text}
-use Rattle.report.specs.Calls.{Says}
+use Rattle.printout.specs.Text.{ascii, decimal, text}
+use Rattle.printout.specs.Calls.{Says}
 
 unfoldable pub worth : ℕ → List ℕ → ℕ
 worth n [] = n
@@ -31,5 +32,5 @@ PapersListing =
 abbrev pub DigitsBack : Type 0
 DigitsBack = (n : ℕ) → n < 2 ^ 64 → worth 0 (decimal n) ≡ n
 
-abbrev pub OneReport : Type 0
-OneReport = (u : Totals) (o₀ o p : List ℕ) (n m : ℕ) → Says u o₀ n o → Says u o₀ m p → (n ≡ m) × (o ≡ p)
+abbrev pub OneText : Type 0
+OneText = (u : Totals) (o₀ o p : List ℕ) (n m : ℕ) → Says u o₀ n o → Says u o₀ m p → (n ≡ m) × (o ≡ p)

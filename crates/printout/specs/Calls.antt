@@ -1,6 +1,6 @@
 -- What `text` owes.
 -- ┌───────────────┬────────────────────────────────────────────────────────────────┐
--- │ Says u o₀ n o │ the report of u is the first n bytes of o, which is o₀ past    │
+-- │ Says u o₀ n o │ the listing of u is the first n bytes of o, which is o₀ past   │
 -- │               │ them                                                           │
 -- └───────────────┴────────────────────────────────────────────────────────────────┘
 use mathlib.Core.Path.{_≡_}
@@ -10,7 +10,7 @@ use lib.ListN.{length}
 use Rattle.io.specs.Counts.{Counts}
 use Rattle.laws.specs.Lent.{_over_}
 use Rattle.lane.specs.declared.Totals.{Totals}
-use Rattle.report.specs.Text.{text}
+use Rattle.printout.specs.Text.{text}
 
 pub record Says (u : Totals) (o₀ : List ℕ) (n : ℕ) (o : List ℕ) : Type 0 where
   pub size : n ≡ length (text u)

@@ -4,7 +4,7 @@
 -- │ inlaid-more │ one byte more, stored                                             │
 -- │ inlay-length │ the output keeps its length                                       │
 -- │ then        │ a piece after another is their joining                            │
--- │ says        │ a report laid from the start on is what `text` owes               │
+-- │ says        │ a listing laid from the start on is what `text` owes              │
 -- └─────────────┴───────────────────────────────────────────────────────────────────┘
 use mathlib.Core.Path.{_≡_, refl, sym, ap, _∙_, subst}
 use mathlib.Core.List.{List, [], _∷_, _++_, append-assoc, append-nil}
@@ -17,9 +17,9 @@ use lib.Seq.{take-suc, length-take-le}
 use Rattle.laws.specs.Lent.{_over_}
 use Rattle.laws.proofs.Writing.{over-none, over-length, over-more}
 use Rattle.lane.specs.declared.Totals.{Totals}
-use Rattle.report.specs.Text.{text}
-use Rattle.report.specs.Calls.{Says}
-use Rattle.report.specs.Parts.{inlaid, Inlays}
+use Rattle.printout.specs.Text.{text}
+use Rattle.printout.specs.Calls.{Says}
+use Rattle.printout.specs.Parts.{inlaid, Inlays}
 
 take-over : (n : ℕ) (o : List ℕ) → take n o over o ≡ o
 unfolding _over_

@@ -1,4 +1,5 @@
-/* Frames of the serial line, for host programs in C and C++. Link with libhost.a (x86-64).
+/* Frames of the serial line, for host programs in C and C++ on x86-64. Link with liblakshrumov.a or liblakshrumov.so, as `./run --install`
+ * lays them down, or with libhost.a, as `rt staticlib host` makes it.
  *
  * A frame is 64 line bits held as a 64-bit number, position 0 as its highest bit. A data word is a number below 2^48.
  * A list of 64-bit numbers is a run of bytes, eight bytes a number, highest first.
@@ -6,9 +7,10 @@
  * What a caller owes, in every call:
  *   - a pointer and the length beside it describe bytes that may be read, and written where the pointer is not const;
  *   - NULL is given only with length 0;
- *   - the buffers of one call do not overlap;
- *   - no other thread touches them during the call.
- * Buffers need no alignment. Nothing is kept after the call, nothing is allocated, and no call has a state.
+ *   - the buffers of one call do not overlap: what a call does with buffers that do is undefined, and it does not refuse them;
+ *   - no other thread writes to them during the call, or reads those that the call writes.
+ * Buffers need no alignment. Nothing is kept after the call, nothing is allocated, and no call has a state: any calls may run at the same
+ * time, in any threads, on different buffers. A call needs at most 13.7 KB of stack; docs/C-INTERFACE.md says how much each.
  *
  * A refusal is a number of the paper's table and no other answer: every byte lent is then as it was before the call. Where 12 and
  * another refusal meet, 12 is given. Bytes of an output past the written ones always stay as they were.
@@ -21,6 +23,10 @@
 #include <stddef.h>
 #include <stdint.h>
 #endif
+
+/* The version of this header and of its library: ten thousand times the major, a hundred times the minor number, and the patch. The major
+ * number changes when a program that was built against an older header could be misled. */
+#define LKS_VERSION 10000
 
 /* The refusals that frames have. */
 #define LKS_TOO_LARGE 11  /* a data word of 2^48 or more */

@@ -1,6 +1,11 @@
-// The header as C++ takes it: the entries keep their C names, so this links, and each has the type that is written here.
+// The header as C++ takes it: the entries keep their C names, so this links, and each has the type that is written here; the version can
+// be asked for before anything is compiled.
 #include "../plain.h"
 #include "../../include/lakshrumov.h"
+
+#if LKS_VERSION / 10000 != 1
+#error this test is of major version 1
+#endif
 
 static uint64_t (*frame_make)(uint64_t) = lks_frame_make;
 static uint64_t (*frame_read)(uint64_t, uint8_t *, size_t) = lks_frame_read;

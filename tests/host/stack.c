@@ -1,0 +1,98 @@
+// How many bytes of stack each entry touches, the return address with them. The entry runs on a painted area in place of the stack, and
+// the lowest byte that is not as it was painted ends what it touched. Each call is made over two paints, one the other's complement: a
+// byte that is written with its own paint shows in the other. Prints the rows of the page's table, in KB of 1,000 bytes, rounded up.
+#include "../plain.h"
+#include "../../include/lakshrumov.h"
+
+enum { AREA = 1 << 17, MOST = 512, PAINT = 0x5A };
+
+static uint8_t area[AREA] __attribute__((aligned(16)));
+static uint8_t in[8 * MOST], out[8 * MOST], verdicts[MOST];
+
+// Calls the entry with six arguments, with its stack below the top.
+void on_stack(void (*entry)(void), uint8_t *top, const uint64_t arguments[6]);
+__asm__(".pushsection .text\n"
+        "on_stack:\n"
+        "    push %rbx\n"
+        "    mov %rsp, %rbx\n"
+        "    mov %rsi, %rsp\n"
+        "    mov %rdi, %rax\n"
+        "    mov %rdx, %r10\n"
+        "    mov (%r10), %rdi\n"
+        "    mov 8(%r10), %rsi\n"
+        "    mov 16(%r10), %rdx\n"
+        "    mov 24(%r10), %rcx\n"
+        "    mov 32(%r10), %r8\n"
+        "    mov 40(%r10), %r9\n"
+        "    call *%rax\n"
+        "    mov %rbx, %rsp\n"
+        "    pop %rbx\n"
+        "    ret\n"
+        ".popsection\n");
+
+static size_t most; // that an entry touched since its first call
+
+static void called(void (*entry)(void), const uint64_t arguments[6])
+{
+    for (int turn = 0; turn < 2; turn++) {
+        int paint = turn ? PAINT : 255 - PAINT;
+        size_t low = 0;
+        memset(area, paint, AREA);
+        on_stack(entry, area + AREA, arguments);
+        while (low < AREA && area[low] == paint)
+            low++;
+        if (low == 0)
+            fail("stack: the area is too small");
+        if (AREA - low > most)
+            most = AREA - low;
+    }
+}
+
+static void row(const char *name)
+{
+    size_t tenths = (most + 99) / 100;
+    printf("| `%s` | %llu.%llu |\n", name, (shown)(tenths / 10), (shown)(tenths % 10));
+    most = 0;
+}
+
+static const uint64_t some_data[] = {0, 0x1234, 0xFFFFFFFFFFFFu, (uint64_t)1 << 48};
+// clean, one flip, two flips, a wrong pad, 13, 14
+static const uint64_t some_frames[] = {0x0000800040003565u, 0x0000800040003567u, 0x8000800040003567u,
+                                       0x0000800040003564u, 0x000080004000356Bu, 0};
+enum { WORDS = sizeof some_data / 8, FRAMES = sizeof some_frames / 8 };
+
+static void single(void)
+{
+    for (size_t i = 0; i < WORDS; i++)
+        called((void (*)(void))lks_frame_make, (uint64_t[6]){some_data[i]});
+    row("lks_frame_make");
+    for (size_t i = 0; i < FRAMES; i++)
+        for (size_t len = LKS_ANSWER_BYTES - 1; len <= LKS_ANSWER_BYTES; len++)
+            called((void (*)(void))lks_frame_read, (uint64_t[6]){some_frames[i], (uint64_t)out, len});
+    row("lks_frame_read");
+}
+
+static const size_t lengths[] = {0, 8, 15, 16, 8 * MOST}; // 15: refused
+
+// Lists of `kinds` numbers in turn, from each of them on.
+static void lists(const uint64_t *numbers, size_t kinds, void (*entry)(void), int reads)
+{
+    for (size_t from = 0; from < kinds; from++) {
+        for (size_t i = 0; i < MOST; i++)
+            put_number(in + 8 * i, numbers[(from + i) % kinds]);
+        for (size_t k = 0; k < sizeof lengths / sizeof lengths[0]; k++)
+            called(entry, (uint64_t[6]){(uint64_t)in, lengths[k], (uint64_t)out, sizeof out, reads ? (uint64_t)verdicts : 0,
+                                        reads ? sizeof verdicts : 0});
+    }
+}
+
+int main(void)
+{
+    single();
+    lists(some_data, WORDS - 1, (void (*)(void))lks_frames_make, 0);
+    lists(some_data, WORDS, (void (*)(void))lks_frames_make, 0);
+    row("lks_frames_make");
+    lists(some_frames, FRAMES, (void (*)(void))lks_frames_read, 1);
+    row("lks_frames_read");
+    return 0;
+}

@@ -58,10 +58,3 @@ same() { # WHAT FILE FILE
         stop "$1: $2 (<) and $3 (>) differ"
     fi
 }
-
-refused() { # WHAT PROGRAM: what stands on standard input makes it print nothing but one line on standard error
-    start "$2" >"$room/ours" 2>"$room/said" || true
-    if [ -s "$room/ours" ] || [ "$(wc -l <"$room/said")" != 1 ]; then
-        stop "$1 must print nothing but one line on standard error"
-    fi
-}

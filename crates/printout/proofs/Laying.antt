@@ -1,11 +1,11 @@
 -- Bytes laid one after another into an output.
--- ┌─────────────┬───────────────────────────────────────────────────────────────────┐
--- │ inlaid-none │ before the first                                                  │
--- │ inlaid-more │ one byte more, stored                                             │
--- │ inlay-length │ the output keeps its length                                       │
--- │ then        │ a piece after another is their joining                            │
--- │ says        │ a listing laid from the start on is what `text` owes              │
--- └─────────────┴───────────────────────────────────────────────────────────────────┘
+-- ┌──────────────┬──────────────────────────────────────────────────────────────────┐
+-- │ inlaid-none  │ before the first                                                 │
+-- │ inlaid-more  │ one byte more, stored                                            │
+-- │ inlay-length │ the output keeps its length                                      │
+-- │ then         │ a piece after another is their joining                           │
+-- │ says         │ a listing laid from the start on is what `text` owes             │
+-- └──────────────┴──────────────────────────────────────────────────────────────────┘
 use mathlib.Core.Path.{_≡_, refl, sym, ap, _∙_, subst}
 use mathlib.Core.List.{List, [], _∷_, _++_, append-assoc, append-nil}
 use Prim.Native.Nat.{ℕ, zero, suc, _+_, _<_, _≤_}

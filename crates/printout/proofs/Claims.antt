@@ -2,12 +2,12 @@
 use mathlib.Core.Path.{refl, sym, _∙_}
 use native.Mathlib.Omega.{arith}
 use Rattle.laws.specs.Lent.{_over_}
-use Rattle.printout.specs.Text.{ascii, spelled, line, tallyLines, text}
+use Rattle.printout.specs.Text.{ascii, spelled, line, acceptedLines, refusedLines, text}
 use Rattle.printout.specs.Claims.{PapersListing, DigitsBack, OneText}
 use Rattle.printout.proofs.Digits.{spelled-worth}
 
 pub papers-listing : PapersListing
-unfolding ascii spelled line tallyLines text
+unfolding ascii spelled line acceptedLines refusedLines text
 papers-listing = refl
 
 pub digits-back : DigitsBack

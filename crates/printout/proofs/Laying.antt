@@ -4,6 +4,7 @@
 -- │ inlaid-more  │ one byte more, stored                                            │
 -- │ inlay-length │ the output keeps its length                                      │
 -- │ then         │ a piece after another is their joining                           │
+-- │ respelled    │ a part of a piece, said otherwise                                │
 -- │ says         │ a listing laid from the start on is what `text` owes             │
 -- └──────────────┴──────────────────────────────────────────────────────────────────┘
 use mathlib.Core.Path.{_≡_, refl, sym, ap, _∙_, subst}
@@ -80,6 +81,9 @@ then {o₀} {p} {q} {o} {o′} {at} {r} {s} l h m =
   where
     plus : at + length p + length q ≡ at + (length p + length q)
     plus = omega arith
+
+pub respelled : {o₀ o ds es : List ℕ} {at r : ℕ} (p q : List ℕ) → ds ≡ es → Inlays o₀ at (p ++ ds ++ q) r o → Inlays o₀ at (p ++ es ++ q) r o
+respelled {o₀} {o} {ds} {es} {at} {r} p q e l = subst (λ (ds : List ℕ). Inlays o₀ at (p ++ ds ++ q) r o) e l
 
 pub says : {u : Totals} {o₀ o : List ℕ} {r : ℕ} → Inlays o₀ 0 (text u) r o → r ≤ length o₀ → Says u o₀ r o
 says {u} {o₀} {o} {r} l h =

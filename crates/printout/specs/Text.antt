@@ -1,14 +1,14 @@
 -- The listing of a lane, as bytes: eight lines, each a name, a number in decimal and a line end.
--- ┌─────────────┬──────────────────────────────────────────────────────────────────┐
--- │ ascii s     │ the codes of the characters of the text s                        │
--- │ spelled k n │ the digits of n, k at most: of a number below ten itself, of any │
--- │             │ other those of n / 10 and then the last                          │
--- │ decimal n   │ the digits of a 64-bit number, which has at most twenty          │
--- │ line name n │ the line of one number                                           │
--- │ tallyLines  │ those of the tally t                                             │
--- │   t         │                                                                  │
--- │ text u      │ the listing of the totals u                                      │
--- └─────────────┴──────────────────────────────────────────────────────────────────┘
+-- ┌─────────────────┬──────────────────────────────────────────────────────────────┐
+-- │ ascii s         │ the codes of the characters of the text s                    │
+-- │ spelled k n     │ the digits of n, k at most: of a number below ten itself, of │
+-- │                 │ any other those of n / 10 and then the last                  │
+-- │ decimal n       │ the digits of a 64-bit number, which has at most twenty      │
+-- │ line name n     │ the line of one number                                       │
+-- │ acceptedLines t │ those of the frames that were read                           │
+-- │ refusedLines t  │ those of the frames that were not                            │
+-- │ text u          │ the listing of the totals u                                  │
+-- └─────────────────┴──────────────────────────────────────────────────────────────┘
 use mathlib.Core.Bool.{cond}
 use mathlib.Core.List.{List, [], _∷_, _++_}
 use Prim.Native.Char.{code}
@@ -32,14 +32,16 @@ decimal n = spelled 20 n
 unfoldable pub line : String → ℕ → List ℕ
 line name n = ascii name ++ decimal n ++ ascii "\n"
 
-unfoldable pub tallyLines : Tally → List ℕ
-tallyLines t =
-    line "clean " (t .clean)
-    ++ line "one " (t .one)
-    ++ line "two " (t .two)
-    ++ line "no-word " (t .«no_word»)
-    ++ line "run-broken " (t .«run_broken»)
-    ++ line "pad-wrong " (t .«pad_wrong»)
+unfoldable pub acceptedLines : Tally → List ℕ
+acceptedLines t = line "clean " (t .clean) ++ line "one " (t .one) ++ line "two " (t .two)
+
+unfoldable pub refusedLines : Tally → List ℕ
+refusedLines t = line "no-word " (t .«no_word») ++ line "run-broken " (t .«run_broken»)
 
 unfoldable pub text : Totals → List ℕ
-text u = line "frames " (u .frames) ++ tallyLines (u .tally) ++ line "left-over " (u .left)
+text u =
+    line "frames " (u .frames)
+    ++ acceptedLines (u .tally)
+    ++ refusedLines (u .tally)
+    ++ line "pad-wrong " (u .tally .«pad_wrong»)
+    ++ line "left-over " (u .left)

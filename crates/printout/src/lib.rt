@@ -2,7 +2,7 @@
 ghost use mathlib.Core.List.{_++_};
 ghost use Prim.Native.Nat.{_+_, _≤_};
 ghost use lib.ListN.{length};
-ghost use Rattle.printout.specs.Text.{ascii, decimal, tallyLines};
+ghost use Rattle.printout.specs.Text.{ascii, decimal, acceptedLines, refusedLines};
 ghost use Rattle.printout.specs.Calls.{Says};
 ghost use Rattle.printout.specs.Parts.{Inlays};
 use lane::Totals;
@@ -34,25 +34,35 @@ fn line(out: &mut [u8], at: usize, name: &[u8], n: u64) -> usize
     put(out, spelled, b"\n")
 }
 
-// The lines of a tally, 169 bytes at most.
-fn tally_lines(out: &mut [u8], at: usize, t: Tally) -> usize
-    requires { ⌜ at + 169 ≤ length (now out) ⌝ }
-    ensures { λ r. ⌜ Inlays (now (out .entry)) at (tallyLines t) r (now (out .exit)) ⌝ }
-    ensures { λ r. ⌜ r ≤ at + 169 ⌝ }
+// The lines of the frames that were read, 77 bytes at most.
+fn accepted_lines(out: &mut [u8], at: usize, t: Tally) -> usize
+    requires { ⌜ at + 77 ≤ length (now out) ⌝ }
+    ensures { λ r. ⌜ Inlays (now (out .entry)) at (acceptedLines t) r (now (out .exit)) ⌝ }
+    ensures { λ r. ⌜ r ≤ at + 77 ⌝ }
 {
     let clean = line(out, at, b"clean ", t.clean);
     let one = line(out, clean, b"one ", t.one);
-    let two = line(out, one, b"two ", t.two);
-    let no_word = line(out, two, b"no-word ", t.no_word);
-    let run_broken = line(out, no_word, b"run-broken ", t.run_broken);
-    line(out, run_broken, b"pad-wrong ", t.pad_wrong)
+    line(out, one, b"two ", t.two)
+}
+
+// The lines of those that were not, 61 bytes at most.
+fn refused_lines(out: &mut [u8], at: usize, t: Tally) -> usize
+    requires { ⌜ at + 61 ≤ length (now out) ⌝ }
+    ensures { λ r. ⌜ Inlays (now (out .entry)) at (refusedLines t) r (now (out .exit)) ⌝ }
+    ensures { λ r. ⌜ r ≤ at + 61 ⌝ }
+{
+    let no_word = line(out, at, b"no-word ", t.no_word);
+    line(out, no_word, b"run-broken ", t.run_broken)
 }
 
 // Puts the listing of u at the start of `out`, and answers its length, 228 at most.
 pub fn text(u: Totals, out: &mut [u8; 256]) -> usize
     ensures { λ r. ⌜ Says u (now (out .entry)) r (now (out .exit)) ⌝ }
 {
+    let t = u.tally;
     let frames = line(out, 0, b"frames ", u.frames);
-    let counts = tally_lines(out, frames, u.tally);
-    line(out, counts, b"left-over ", u.left)
+    let accepted = accepted_lines(out, frames, t);
+    let refused = refused_lines(out, accepted, t);
+    let pads = line(out, refused, b"pad-wrong ", t.pad_wrong);
+    line(out, pads, b"left-over ", u.left)
 }

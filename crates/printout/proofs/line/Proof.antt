@@ -1,22 +1,22 @@
 -- `line` lays the name, the digits and the line end one after another.
-use mathlib.Core.Path.{_≡_, sym, ap, _∙_, subst}
-use mathlib.Core.List.{List, [], _∷_, _++_}
-use Prim.Native.Nat.{ℕ, _+_, _≤_}
+use mathlib.Core.Path.{_∙_}
+use mathlib.Core.List.{[], _∷_}
+use Prim.Native.Nat.{_≤_}
 use native.Mathlib.Omega.{arith}
 use borrow.Author.Needs.{needs}
 use lib.ListN.{length, take}
-use Rattle.printout.specs.Text.{ascii, decimal}
-use Rattle.printout.specs.Parts.{Inlays}
-use Rattle.printout.proofs.Laying.{then, inlay-length}
+use Rattle.printout.specs.Text.{ascii}
+use Rattle.printout.proofs.Laying.{then, respelled, inlay-length}
 use Rattle.printout.proofs.Digits.{twenty, spelled-least}
 use Rattle.printout.proofs.line.Statement.{statement}
 use Rattle.printout.proofs.line.Tie as tie
 
 -- the digits are few
+most : (c : tie.After-decimal) → c .decimal .result ≤ 20
+most c = twenty (c .decimal .ensures .1 .0) (omega arith)
+
 few : (c : tie.After-decimal) → length (take (c .decimal .result) (c .decimal .last .1 .0)) ≤ 20
-few c =
-    let d = c .decimal .ensures in
-    omega (arith, d .0 .1, twenty (d .1 .0) (omega arith))
+few c = omega (arith, c .decimal .ensures .0 .1, most c)
 
 put-requires-2 : tie.Need-put-requires-2
 put-requires-2 c κs =
@@ -33,21 +33,29 @@ put-requires-3 c κs =
 returns : tie.Need-returns
 unfolding ascii
 returns c =
-    let start = c .before .before .before .before .before .before .before .before .before .before .before .before .before .before .before .before .before .before in
-    let after-named = c .before .before .before .before .before .before .before .before .before .before .before .before in
-    let after-decimal = after-named .before .before in
-    let d = after-decimal .decimal .ensures in
-    let spelled = c .before .before .before .before .before .before .before .put2 .ensures in
-    let named = after-named .put .ensures in
-    let ended = c .before .before .put3 .ensures in
-    let two = then named (omega (arith, named .after)) spelled in
-    let all = then two (omega (arith, named .after, spelled .after, few after-decimal)) ended in
-    let e = d .1 .1 ∙ spelled-least (after-decimal .decimal .result) 20 (start .args .n) (d .1 .0) (twenty (d .1 .0) (omega arith)) in (
-      subst (λ (ds : List ℕ). Inlays (start .args .out .now) (start .args .at) (start .args .name .now ++ ds ++ 10 ∷ []) (c .before .before .put3 .result) (c .before .before .put3 .last .0)) e all,
-      omega (arith, named .after, spelled .after, ended .after, few after-decimal),
-    )
+    let at-end = c .before .before in
+    let at-spelled = at-end .before .before .before .before .before in
+    let at-named = at-spelled .before .before .before .before .before in
+    let at-digits = at-named .before .before in
+    let d = at-digits .decimal .ensures in
+    let n = at-named .put .ensures in
+    let s = at-spelled .put2 .ensures in
+    let e = at-end .put3 .ensures in
+    let named = then n (omega (arith, n .after)) s in
+    let all = then named (omega (arith, n .after, s .after, few at-digits)) e in
+    let digits = d .1 .1 ∙ spelled-least _ 20 _ (d .1 .0) (most at-digits) in
+    (respelled (at-digits .before .before .before .before .args .name .now) (10 ∷ []) digits all, omega (arith, n .after, s .after, e .after, few at-digits))
 
 pub line-spec : {M : Type 1} → statement M
 line-spec =
     tie.close
-    (tie.spec (search needs) (search needs) (search needs) (search needs) put-requires-2 (search needs) put-requires-3 (search needs) returns)
+    (tie.spec
+    (search needs)
+    (search needs)
+    (search needs)
+    (search needs)
+    put-requires-2
+    (search needs)
+    put-requires-3
+    (search needs)
+    returns)

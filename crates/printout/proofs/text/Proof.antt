@@ -1,20 +1,30 @@
--- `text` lays the lines one after another from the start on.
+-- `text` lays its lines one after another.
 use native.Mathlib.Omega.{arith}
 use borrow.Author.Needs.{needs}
-use Rattle.printout.specs.Text.{ascii, line, tallyLines, text}
+use Rattle.printout.specs.Text.{ascii, line, text}
 use Rattle.printout.proofs.Laying.{then, says}
 use Rattle.printout.proofs.text.Statement.{statement}
 use Rattle.printout.proofs.text.Tie as tie
 
 returns : tie.Need-returns
-unfolding ascii line tallyLines text
+unfolding ascii line text
 returns c =
-    let c2 = c .before .before .before in
+    let c4 = c .before .before .before in
+    let c3 = c4 .before .before .before in
+    let c2 = c3 .before .before in
     let c1 = c2 .before .before in
     let (frames, r1) = c1 .line .ensures in
-    let (counts, r2) = c2 .tally-lines .ensures in
-    let (left, r3) = c .line2 .ensures in
-    says (then (then frames (omega (arith, r1)) counts) (omega (arith, r1, r2)) left) (omega (arith, r1, r2, r3))
+    let (accepted, r2) = c2 .accepted-lines .ensures in
+    let (refused, r3) = c3 .refused-lines .ensures in
+    let (pads, r4) = c4 .line2 .ensures in
+    let (left, r5) = c .line3 .ensures in
+    let upto-refused = then (then frames (omega (arith, r1)) accepted) (omega (arith, r1, r2)) refused in
+    let upto-pads = then upto-refused (omega (arith, r1, r2, r3)) pads in
+    says (then upto-pads (omega (arith, r1, r2, r3, r4)) left) (omega (arith, r1, r2, r3, r4, r5))
 
 pub text-spec : {M : Type 1} → statement M
-text-spec = tie.close (tie.spec (search needs) (search needs) (search needs) (search needs) (search needs) returns)
+text-spec =
+    tie.close
+    (tie.spec
+    (search needs) (search needs) (search needs) (search needs) (search needs) (search needs) (search needs) (search needs)
+    returns)

@@ -41,4 +41,16 @@ returns c = search needs
 
 pub show-spec : {M : Type 1} → statement M
 show-spec =
-    tie.close (tie.spec Inv-loop μ-loop loop-holds slice-read-shown shown-requires slice-write-name add-i loop-less loop-again same-length returns)
+    tie.close
+    (tie.spec
+    Inv-loop
+    μ-loop
+    loop-holds
+    slice-read-shown
+    shown-requires
+    slice-write-name
+    add-i
+    loop-less
+    loop-again
+    same-length
+    returns)

@@ -36,13 +36,12 @@ build() { # PROGRAM LANGUAGE FILE...: sources of the test's folder, and archives
     logged link.log "$own/bin/rattle-link" --target x86_64-unknown-linux-gnu --toolchain "$own/toolchain" -o "$room/$1" "${objects[@]}"
 }
 
-# `rt staticlib` proves anew at each call, so it is called only where a file of a crate is newer than the archive.
+make_program() { logged program.log tools/program "$@"; } # NAME...: target/programs/NAME, where it is not up to date
+
 make_archive() { # into archive
     if [ -n "$archive" ]; then return; fi
+    make_program libhost.a
     archive=target/staticlib/libhost.a
-    if [ ! -e "$archive" ] || [ -n "$(find crates.txt crates -newer "$archive" -print -quit)" ]; then
-        logged archive.log rt staticlib host
-    fi
 }
 
 start() { # PROGRAM [ARG...]: directly on x86-64, elsewhere under the kit's emulator

@@ -94,7 +94,7 @@ leaves_nothing() {
     local left looks
     left=$(find "$copy/target/programs" "$here/tmp" -mindepth 1 -print -quit)
     [ -z "$left" ] || stop "an interrupt leaves $left"
-    for ((looks = 0; looks < 20; looks++)); do
+    for ((looks = 0; looks < 100; looks++)); do
         running || return 0
         sleep 0.1
     done

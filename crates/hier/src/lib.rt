@@ -1,5 +1,8 @@
 // The hierarchical code 4c2 on four wires: seven data bits as four symbols of two ones each, and back with up to two flips.
-ghost use Rattle.hier.specs.Calls.{Makes, Reads};
+ghost use mathlib.Core.Path.{_≡_};
+ghost use Prim.Native.Nat.{_<_};
+ghost use Rattle.block.specs.Blocks.{codeOf};
+ghost use Rattle.hier.specs.Calls.{dataEnd, Makes, Reads};
 
 mod found;
 mod symbols;
@@ -27,14 +30,11 @@ pub enum Reading {
 // Data is a number below it.
 const DATA_END: u8 = 128;
 
-// Codes data below 128.
-pub fn make(data: u8) -> Coded
-    ensures { λ r. ⌜ Makes «data» r ⌝ }
+// The block of data below 128: its four symbols.
+fn block_of(d: u16) -> u16
+    requires { ⌜ d < dataEnd ⌝ }
+    ensures { λ r. ⌜ r ≡ codeOf d ⌝ }
 {
-    if DATA_END <= data {
-        return Coded::Refused(paper::OUTSIDE);
-    }
-    let d = data as u16;
     let u = d / 16 / 3;
     let w = d / 16 % 3;
     let c = d % 16;
@@ -42,7 +42,17 @@ pub fn make(data: u8) -> Coded
     let second = symbol_of(w, c / 4 % 2);
     let third = symbol_of((u + w) % 3, c / 2 % 2);
     let fourth = symbol_of((u + 2 * w) % 3, c % 2);
-    Coded::Block(first * 4096 + second * 256 + third * 16 + fourth)
+    first * 4096 + second * 256 + third * 16 + fourth
+}
+
+// Codes data below 128.
+pub fn make(data: u8) -> Coded
+    ensures { λ r. ⌜ Makes «data» r ⌝ }
+{
+    if DATA_END <= data {
+        return Coded::Refused(paper::OUTSIDE);
+    }
+    Coded::Block(block_of(data as u16))
 }
 
 // Reads any sixteen bits.

@@ -18,7 +18,7 @@ use lib.Seq.{take-suc, length-take-le}
 use Rattle.laws.specs.Lent.{_over_}
 use Rattle.laws.proofs.Writing.{over-none, over-length, over-more}
 use Rattle.lane.specs.declared.Totals.{Totals}
-use Rattle.printout.specs.Text.{text}
+use Rattle.wording.specs.Text.{text}
 use Rattle.printout.specs.Calls.{Says}
 use Rattle.printout.specs.Parts.{inlaid, Inlays}
 

@@ -10,7 +10,7 @@ use lib.ListN.{length}
 use Rattle.io.specs.Counts.{Counts}
 use Rattle.laws.specs.Lent.{_over_}
 use Rattle.lane.specs.declared.Totals.{Totals}
-use Rattle.printout.specs.Text.{text}
+use Rattle.wording.specs.Text.{text}
 
 pub record Says (u : Totals) (o₀ : List ℕ) (n : ℕ) (o : List ℕ) : Type 0 where
   pub size : n ≡ length (text u)

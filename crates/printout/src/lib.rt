@@ -2,7 +2,7 @@
 ghost use mathlib.Core.List.{_++_};
 ghost use Prim.Native.Nat.{_+_, _≤_};
 ghost use lib.ListN.{length};
-ghost use Rattle.printout.specs.Text.{ascii, decimal, acceptedLines, refusedLines};
+ghost use Rattle.wording.specs.Text.{ascii, decimal, acceptedLines, refusedLines};
 ghost use Rattle.printout.specs.Calls.{Says};
 ghost use Rattle.printout.specs.Parts.{Inlays};
 use lane::Totals;

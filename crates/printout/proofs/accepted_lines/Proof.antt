@@ -1,7 +1,7 @@
 -- `accepted_lines` lays its lines one after another.
 use native.Mathlib.Omega.{arith}
 use borrow.Author.Needs.{needs}
-use Rattle.printout.specs.Text.{ascii, line, acceptedLines}
+use Rattle.wording.specs.Text.{ascii, line, acceptedLines}
 use Rattle.printout.proofs.Laying.{then}
 use Rattle.printout.proofs.accepted_lines.Statement.{statement}
 use Rattle.printout.proofs.accepted_lines.Tie as tie

@@ -5,9 +5,9 @@ use Prim.Native.Nat.{_≤_}
 use native.Mathlib.Omega.{arith}
 use borrow.Author.Needs.{needs}
 use lib.ListN.{length, take}
-use Rattle.printout.specs.Text.{ascii}
+use Rattle.wording.specs.Text.{ascii}
 use Rattle.printout.proofs.Laying.{then, respelled, inlay-length}
-use Rattle.printout.proofs.Digits.{twenty, spelled-least}
+use Rattle.wording.proofs.Digits.{twenty, spelled-least}
 use Rattle.printout.proofs.line.Statement.{statement}
 use Rattle.printout.proofs.line.Tie as tie
 

@@ -1,7 +1,7 @@
 -- `refused_lines` lays its lines one after another.
 use native.Mathlib.Omega.{arith}
 use borrow.Author.Needs.{needs}
-use Rattle.printout.specs.Text.{ascii, line, refusedLines}
+use Rattle.wording.specs.Text.{ascii, line, refusedLines}
 use Rattle.printout.proofs.Laying.{then}
 use Rattle.printout.proofs.refused_lines.Statement.{statement}
 use Rattle.printout.proofs.refused_lines.Tie as tie

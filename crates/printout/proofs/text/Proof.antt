@@ -1,7 +1,7 @@
 -- `text` lays its lines one after another.
 use native.Mathlib.Omega.{arith}
 use borrow.Author.Needs.{needs}
-use Rattle.printout.specs.Text.{ascii, line, text}
+use Rattle.wording.specs.Text.{ascii, line, text}
 use Rattle.printout.proofs.Laying.{then, says}
 use Rattle.printout.proofs.text.Statement.{statement}
 use Rattle.printout.proofs.text.Tie as tie

@@ -14,8 +14,8 @@ use native.Mathlib.Omega.{arith}
 use borrow.Author.Tests.{lt-ltb, le-ltb, ltb-true, leb-true, leb-false}
 use lib.Dec.{ltb, leb}
 use Rattle.io.specs.Digits.{glyph, digits, Fewest}
-use Rattle.printout.specs.Text.{spelled}
-use Rattle.printout.specs.Claims.{worth}
+use Rattle.wording.specs.Text.{spelled}
+use Rattle.wording.specs.Claims.{worth}
 
 glyph-low : (d : ℕ) → d < 10 → glyph d ≡ 48 + d
 glyph-low d h = ap (λ (b : Bool). cond b (48 + d) (87 + d)) (lt-ltb d 10 h)

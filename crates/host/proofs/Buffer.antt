@@ -12,11 +12,11 @@ use borrow.Author.Tests.{lt-ltb}
 use lib.Bits.{bitXor}
 use lib.ListN.{length, drop, set, length-drop}
 use lib.Seq.{drop-drop}
-use Rattle.octets.specs.Octets.{eight, inBytes, stored}
+use Rattle.radix.specs.Octets.{eight, inBytes, stored}
 use Rattle.bch.proofs.Ones.{ups, differ-ups, Rising, ups-rising}
 use Rattle.frame.specs.Word.{wordOf}
 use Rattle.reader.specs.Answers.{placesOf, answer}
-use Rattle.reader.specs.Reads.{Reads}
+use Rattle.decoding.specs.Reads.{Reads}
 use Rattle.reader.specs.declared.Flips.{Flips}
 use Rattle.reader.specs.declared.Flips.the-variants.{Nowhere, One, Two}
 use Rattle.reader.specs.declared.Word.{Word}

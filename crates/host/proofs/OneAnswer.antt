@@ -15,7 +15,7 @@ use Rattle.paper.specs.Answer.{Answer, gives, refused, numberOf, numbered}
 use Rattle.paper.proofs.Answer.{numbered-one}
 use Rattle.frame.proofs.Frames.{frame-high}
 use Rattle.maker.specs.Makes.{Makes}
-use Rattle.reader.proofs.Demands.{one-answer}
+use Rattle.decoding.proofs.Demands.{one-answer}
 use Rattle.reader.proofs.OneAnswer.{one-read-bytes}
 use Rattle.maker.proofs.OneAnswer.{one-made-answer, one-made-bytes}
 use Rattle.host.specs.Entries.{returned, laid}

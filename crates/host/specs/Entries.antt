@@ -22,9 +22,9 @@ use lib.ListN.{length, getD, drop}
 use Rattle.paper.specs.Numbers.{unfit}
 use Rattle.paper.specs.Answer.{Answer, gives, refused, numberOf}
 use Rattle.laws.specs.Lent.{Lent}
-use Rattle.octets.specs.Octets.{eight}
-use Rattle.reader.specs.Answers.{Found}
-use Rattle.reader.specs.Reads.{Reads}
+use Rattle.radix.specs.Octets.{eight}
+use Rattle.decoding.specs.Found.{Found}
+use Rattle.decoding.specs.Reads.{Reads}
 use Rattle.maker.specs.Makes.{Makes}
 use Rattle.reader.specs.declared.Flips.{Flips}
 use Rattle.reader.specs.declared.Flips.the-variants.{Nowhere, One, Two}

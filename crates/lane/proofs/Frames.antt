@@ -17,12 +17,13 @@ use lib.ListN.{length, getD, length-map}
 use Rattle.paper.specs.Answer.{Answer, gives, refused}
 use Rattle.laws.specs.Lent.{Each, none, next}
 use Rattle.laws.proofs.Writing.{each-length, one-each}
-use Rattle.octets.specs.Octets.{numbersOf}
-use Rattle.octets.proofs.Joined.{numbers-join, numbers-lt, numbers-len}
-use Rattle.reader.specs.Answers.{Found, verdict, padIn}
-use Rattle.reader.specs.Reads.{Reads}
+use Rattle.radix.specs.Octets.{numbersOf}
+use Rattle.radix.proofs.Joined.{numbers-join, numbers-lt, numbers-len}
+use Rattle.decoding.specs.Found.{Found}
+use Rattle.reader.specs.Answers.{verdict, padIn}
+use Rattle.decoding.specs.Reads.{Reads}
 use Rattle.reader.specs.Claims.{Numbers}
-use Rattle.reader.proofs.Demands.{some-answer, one-answer}
+use Rattle.decoding.proofs.Demands.{some-answer, one-answer}
 use Rattle.tally.specs.Ranges.{isVerdict, every}
 use Rattle.tally.proofs.Verdicts.{is-accepted}
 use Rattle.lane.specs.Seen.{Seen}

@@ -15,7 +15,7 @@ use lib.Seq.{take-at}
 use Rattle.paper.specs.Answer.{Answer, owed}
 use Rattle.laws.specs.Lent.{Lent, _over_}
 use Rattle.laws.proofs.Writing.{over-fits, each-length}
-use Rattle.octets.proofs.Joined.{numbers-len}
+use Rattle.radix.proofs.Joined.{numbers-len}
 use Rattle.reader.specs.Answers.{verdict, padIn}
 use Rattle.tally.specs.Fold.{after}
 use Rattle.tally.specs.Answers.{answer as added}

@@ -14,9 +14,10 @@ use mathlib.Core.List.{List, [], _∷_, map}
 use Prim.Native.Nat.{ℕ}
 use Rattle.paper.specs.Answer.{Answer, gives, refused}
 use Rattle.laws.specs.Lent.{Lent, Output, AllShow, Written}
-use Rattle.octets.specs.Octets.{numbersOf}
-use Rattle.reader.specs.Answers.{Found, verdict, padIn}
-use Rattle.reader.specs.Reads.{Reads}
+use Rattle.radix.specs.Octets.{numbersOf}
+use Rattle.decoding.specs.Found.{Found}
+use Rattle.reader.specs.Answers.{verdict, padIn}
+use Rattle.decoding.specs.Reads.{Reads}
 use Rattle.reader.specs.ByTables.{readBy}
 use Rattle.reader.specs.Lists.{shown}
 use Rattle.tally.specs.Ranges.{inRange}

@@ -8,9 +8,10 @@ use mathlib.Core.List.{List, map}
 use Prim.Native.Nat.{ℕ}
 use Rattle.paper.specs.Answer.{Answer}
 use Rattle.laws.specs.Lent.{Each}
-use Rattle.octets.specs.Octets.{numbersOf}
-use Rattle.reader.specs.Answers.{Found, verdict, padIn}
-use Rattle.reader.specs.Reads.{Reads}
+use Rattle.radix.specs.Octets.{numbersOf}
+use Rattle.decoding.specs.Found.{Found}
+use Rattle.reader.specs.Answers.{verdict, padIn}
+use Rattle.decoding.specs.Reads.{Reads}
 
 pub record Seen (bs vs ps : List ℕ) : Type 0 where
   pub xs : List (Answer Found)

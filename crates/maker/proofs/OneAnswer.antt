@@ -12,7 +12,7 @@ use Rattle.paper.specs.Answer.{Answer, gives, refused}
 use Rattle.paper.proofs.Answer.{either, known-by}
 use Rattle.laws.proofs.Truth.{is-true}
 use Rattle.laws.proofs.Writing.{one-call}
-use Rattle.octets.specs.Octets.{numbersOf}
+use Rattle.radix.specs.Octets.{numbersOf}
 use Rattle.frame.specs.Word.{FrameOf}
 use Rattle.frame.proofs.Frames.{one-frame}
 use Rattle.maker.specs.Answers.{answer}

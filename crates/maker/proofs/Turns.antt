@@ -14,8 +14,8 @@ use lib.ListN.{length, getD, take, set}
 use lib.Seq.{length-take-le}
 use Rattle.laws.specs.Lent.{_over_, Each, none, Written}
 use Rattle.laws.proofs.Writing.{over-none, over-length, over-more, each-length, each-more, each-all}
-use Rattle.octets.specs.Octets.{bytesOf, stored}
-use Rattle.octets.proofs.Writing.{bytes-more}
+use Rattle.radix.specs.Octets.{bytesOf, stored}
+use Rattle.radix.proofs.Writing.{bytes-more}
 use Rattle.frame.specs.Word.{FrameOf}
 
 pub record MadeBy (lay : List ℕ → List ℕ) (ds fs₀ : List ℕ) (i : ℕ) (fs : List ℕ) : Type 0 where

@@ -14,7 +14,7 @@ use Prim.Native.Nat.{ℕ}
 use Rattle.paper.specs.Numbers.{outside, unfit}
 use Rattle.paper.specs.Answer.{Answer}
 use Rattle.laws.specs.Lent.{Lent, Output, ListCall, short}
-use Rattle.octets.specs.Octets.{numbersOf, bytesOf, ragged}
+use Rattle.radix.specs.Octets.{numbersOf, bytesOf, ragged}
 use Rattle.frame.specs.Word.{FrameOf}
 use Rattle.maker.specs.Makes.{tooLarge}
 

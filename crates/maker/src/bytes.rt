@@ -6,7 +6,7 @@ ghost use Prim.Native.Nat.{_≤_};
 ghost use lib.ListN.{length};
 ghost use Rattle.paper.specs.Answer.{listed};
 ghost use Rattle.laws.specs.Lent.{_to_, lent, Written};
-ghost use Rattle.octets.specs.Octets.{numbersOf};
+ghost use Rattle.radix.specs.Octets.{numbersOf};
 ghost use Rattle.frame.specs.Word.{FrameOf};
 ghost use Rattle.maker.specs.Lists.{anyTooLarge, asBytes, MakesBytes};
 use crate::layout::DATA_END;

@@ -14,14 +14,14 @@ use Rattle.paper.specs.Answer.{Answer, gives, owed, done, listed}
 use Rattle.paper.proofs.Answer.{either, known-by, gives-one, never-both, listed-one}
 use Rattle.laws.specs.Lent.{Left}
 use Rattle.laws.proofs.Writing.{one-left}
-use Rattle.octets.specs.Octets.{joined, inBytes}
+use Rattle.radix.specs.Octets.{joined, inBytes}
 use Rattle.octets.specs.Answers.{answer}
 use Rattle.octets.specs.Calls.{there, inside, placed}
 use Rattle.octets.specs.Claims.{PutBack, GotBack, OthersStay, OneGot, OnePut}
 use Rattle.octets.specs.declared.place.Got.{Got}
 use Rattle.octets.specs.declared.place.Got.the-variants.{Number, Refused}
-use Rattle.octets.proofs.Digits.{length-in, joined-lt, back, in-joined}
-use Rattle.octets.proofs.Joined.{joined-first, joined-second}
+use Rattle.radix.proofs.Digits.{length-in, joined-lt, back, in-joined}
+use Rattle.radix.proofs.Joined.{joined-first, joined-second}
 use Rattle.octets.proofs.Placed.{is-there}
 
 -- an answer that is owed and is no refusal: both tests are passed

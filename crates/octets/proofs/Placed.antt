@@ -24,9 +24,9 @@ use lib.Pow.{pow-add}
 use lib.ListN.{length, take, drop, set, length-set}
 use lib.Seq.{drop-cons, drop-drop, drop-set-lt, getD-set-same}
 use Rattle.laws.proofs.Truth.{two}
-use Rattle.octets.specs.Octets.{inBytes}
+use Rattle.radix.specs.Octets.{inBytes}
 use Rattle.octets.specs.Calls.{there, inside, placed}
-use Rattle.octets.proofs.Digits.{base}
+use Rattle.radix.proofs.Digits.{base}
 
 pub power : (n : ℕ) → 256 ^ n ≡ 2 ^ (n * 8)
 power zero = refl

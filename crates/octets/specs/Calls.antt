@@ -18,7 +18,7 @@ use lib.ListN.{length, take, drop}
 use Rattle.paper.specs.Numbers.{outside, unfit, unless}
 use Rattle.paper.specs.Answer.{Answer, owed}
 use Rattle.laws.specs.Lent.{Left}
-use Rattle.octets.specs.Octets.{joined, inBytes}
+use Rattle.radix.specs.Octets.{joined, inBytes}
 
 abbrev pub there : ℕ → ℕ → ℕ → Bool
 there at n len = leb 1 n && (leb n 8 && leb (at + n) len)

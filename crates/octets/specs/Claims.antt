@@ -1,35 +1,22 @@
 -- What is proved beside the contracts.
--- ┌──────────────┬────────────────────────────────────────────────────────────────┐
--- │ BytesAre     │ the bytes of numbers are bytes                                 │
--- │ NumbersBack  │ the numbers of the bytes of 64-bit numbers are those numbers   │
--- │ HighestFirst │ the eight bytes of an asymmetric number, in order              │
--- │ PutBack      │ what was put is read back                                      │
--- │ GotBack      │ what was read, put where it stood, changes nothing             │
--- │ OthersStay   │ a put keeps the length, and every byte before and past its own │
--- │ OneGot       │ no second answer meets the contract of `get`                   │
--- │ OnePut       │ no second answer or list meets the contract of `put`           │
--- └──────────────┴────────────────────────────────────────────────────────────────┘
+-- ┌────────────┬──────────────────────────────────────────────────────────────────┐
+-- │ PutBack    │ what was put is read back                                        │
+-- │ GotBack    │ what was read, put where it stood, changes nothing               │
+-- │ OthersStay │ a put keeps the length, and every byte before and past its own   │
+-- │ OneGot     │ no second answer meets the contract of `get`                     │
+-- │ OnePut     │ no second answer or list meets the contract of `put`             │
+-- └────────────┴──────────────────────────────────────────────────────────────────┘
 use mathlib.Core.Path.{_≡_}
-use mathlib.Core.List.{List, [], _∷_}
+use mathlib.Core.List.{List}
 use mathlib.Core.Logic.{_⊎_}
-use Prim.Native.Nat.{ℕ, _+_, _^_, _<_, _≤_}
+use Prim.Native.Nat.{ℕ, _+_, _<_, _≤_}
 use lib.ListN.{length, getD}
 use Rattle.paper.specs.Answer.{gives, done, listed}
 use Rattle.paper.specs.declared.Listed.{Listed}
 use Rattle.laws.specs.Bits.{Octets}
-use Rattle.octets.specs.Octets.{numbersOf, bytesOf}
 use Rattle.octets.specs.Answers.{answer}
 use Rattle.octets.specs.Calls.{Gets, Puts}
 use Rattle.octets.specs.declared.place.Got.{Got}
-
-abbrev pub BytesAre : Type 0
-BytesAre = (xs : List ℕ) → Octets (bytesOf xs)
-
-abbrev pub NumbersBack : Type 0
-NumbersBack = (xs : List ℕ) → ((i : ℕ) → getD xs i 0 < 2 ^ 64) → numbersOf (bytesOf xs) ≡ xs
-
-abbrev pub HighestFirst : Type 0
-HighestFirst = bytesOf (0x00008000448D21B9 ∷ []) ≡ 0x00 ∷ 0x00 ∷ 0x80 ∷ 0x00 ∷ 0x44 ∷ 0x8D ∷ 0x21 ∷ 0xB9 ∷ []
 
 abbrev pub PutBack : Type 0
 PutBack = (o₀ o : List ℕ) (at n x : ℕ) → Puts o₀ at n x done o → Gets o at n (gives x)

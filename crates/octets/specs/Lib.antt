@@ -1,4 +1,3 @@
-pub mod Octets
 pub mod Answers
 pub mod Calls
 pub mod Claims

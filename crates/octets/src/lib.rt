@@ -2,7 +2,7 @@
 ghost use mathlib.Core.Path.{_≡_};
 ghost use Prim.Native.Nat.{_+_, _*_, _≤_, _<_, _^_};
 ghost use lib.ListN.{length, getD};
-ghost use Rattle.octets.specs.Octets.{joined, numbersOf, eight, stored};
+ghost use Rattle.radix.specs.Octets.{joined, numbersOf, eight, stored};
 
 mod place;
 

@@ -3,7 +3,7 @@ ghost use mathlib.Core.Path.{_≡_};
 ghost use Prim.Native.Nat.{_+_, _≤_, _<_};
 ghost use lib.ListN.{length};
 ghost use Rattle.paper.specs.Answer.{listed};
-ghost use Rattle.octets.specs.Octets.{joined, inBytes};
+ghost use Rattle.radix.specs.Octets.{joined, inBytes};
 ghost use Rattle.octets.specs.Answers.{answer};
 ghost use Rattle.octets.specs.Calls.{there, inside, Gets, Puts};
 use paper::Listed;

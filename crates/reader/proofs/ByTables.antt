@@ -24,8 +24,8 @@ use Rattle.paper.specs.Answer.{Answer, gives, refused}
 use Rattle.laws.specs.Bits.{Octets}
 use Rattle.laws.specs.Lent.{Output, AllShow, Written}
 use Rattle.laws.proofs.Writing.{each-made}
-use Rattle.octets.specs.Octets.{numbersOf}
-use Rattle.octets.proofs.Joined.{numbers-lt}
+use Rattle.radix.specs.Octets.{numbersOf}
+use Rattle.radix.proofs.Joined.{numbers-lt}
 use Rattle.poly.specs.Poly.{rem}
 use Rattle.poly.proofs.Division.{rem-lt, is-divisible}
 use Rattle.bch.specs.Code.{position, differences}
@@ -37,11 +37,11 @@ use Rattle.tables.specs.Tables.{entryOf, MendTable, ByteSums}
 use Rattle.frame.proofs.Sums.{all-right, runs-xor, sums-low, sums-high}
 use Rattle.tables.proofs.Tables.{frameSums, frame-sums-xor, mend-entry}
 use Rattle.tables.proofs.Grown.{byte-turn}
-use Rattle.reader.specs.Answers.{Found, flag}
-use Rattle.reader.specs.Reads.{Reads}
+use Rattle.decoding.specs.Found.{Found, flag}
+use Rattle.decoding.specs.Reads.{Reads}
 use Rattle.reader.specs.ByTables.{byteOf, sumsBy, Mended, nearBy, asReceived, byEntry, mendBy, lawfulBy, saidBy, readBy}
 use Rattle.reader.specs.Claims.{ByTheTables, Numbers}
-use Rattle.reader.proofs.Demands.{mended, no-word, a-word, run-broken, received, received-broken}
+use Rattle.decoding.proofs.Demands.{mended, no-word, a-word, run-broken, received, received-broken}
 
 sums-none : sums 0 ≡ 0
 unfolding sums runSums rem

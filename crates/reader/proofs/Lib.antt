@@ -1,5 +1,3 @@
-pub mod Demands
-pub mod Exactly
 pub mod ByTables
 pub mod Turns
 pub mod OneAnswer

@@ -12,10 +12,11 @@ use lib.ListN.{length, getD}
 use Rattle.paper.specs.Answer.{Answer}
 use Rattle.paper.proofs.Answer.{either, known-by}
 use Rattle.laws.proofs.Writing.{one-call}
-use Rattle.octets.specs.Octets.{numbersOf}
-use Rattle.octets.proofs.Joined.{numbers-lt}
-use Rattle.reader.specs.Answers.{Found, placesOf, flag, found, answer, verdict}
-use Rattle.reader.specs.Reads.{Reads}
+use Rattle.radix.specs.Octets.{numbersOf}
+use Rattle.radix.proofs.Joined.{numbers-lt}
+use Rattle.decoding.specs.Found.{Found, flag}
+use Rattle.reader.specs.Answers.{placesOf, found, answer, verdict}
+use Rattle.decoding.specs.Reads.{Reads}
 use Rattle.reader.specs.Lists.{listRefusal, padsRefusal, bytesRefusal, listShown, allShown, bytesShown}
 use Rattle.reader.specs.Claims.{Numbers, OneReading, OneVerdict, OneReadList, OneReadPads, OneReadBytes}
 use Rattle.reader.specs.declared.Flips.{Flips}
@@ -23,7 +24,7 @@ use Rattle.reader.specs.declared.Flips.the-variants.{Nowhere, One, Two}
 use Rattle.reader.specs.declared.Word.{Word}
 use Rattle.reader.specs.declared.Reading.{Reading}
 use Rattle.reader.specs.declared.Reading.the-variants.{Lawful, Refused}
-use Rattle.reader.proofs.Demands.{one-answer}
+use Rattle.decoding.proofs.Demands.{one-answer}
 
 -- a word by what it says
 flipsAt : List ℕ → Flips

@@ -15,9 +15,9 @@ use lib.ListN.{length, getD, take, set, length-map}
 use Rattle.paper.specs.Answer.{Answer}
 use Rattle.laws.specs.Lent.{_over_}
 use Rattle.laws.proofs.Writing.{over-none, over-length, map-size, map-next, mapped-more, mapped-past, mapped-all, shown-on}
-use Rattle.octets.specs.Octets.{bytesOf, stored}
-use Rattle.octets.proofs.Writing.{bytes-more}
-use Rattle.reader.specs.Answers.{Found}
+use Rattle.radix.specs.Octets.{bytesOf, stored}
+use Rattle.radix.proofs.Writing.{bytes-more}
+use Rattle.decoding.specs.Found.{Found}
 use Rattle.reader.specs.ByTables.{readBy}
 
 pub record ShownBy (c b fs : List ℕ) (g : Answer Found → ℕ) (o₀ : List ℕ) (i : ℕ) (o : List ℕ) : Type 0 where

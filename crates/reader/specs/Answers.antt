@@ -1,38 +1,27 @@
 -- The answers of the calls in the paper's numbers and values.
 -- ┌─────────────┬──────────────────────────────────────────────────────────────────┐
--- │ Found       │ what is read of a frame: data, places of the flips, pad flag     │
 -- │ placesOf p  │ the places of the flips, rising                                  │
--- │ flag b      │ a pad flag: 1 for wrong                                          │
 -- │ found w     │ what a `Word` says                                               │
 -- │ answer r    │ the answer that a `Reading` is                                   │
 -- │ verdict a   │ the verdict byte: how many flips, or the refusal                 │
 -- │ dataIn a    │ the data of a list's place: 0 where the frame is refused         │
 -- │ padIn a     │ the pad flag of a list's place: 0 where the frame is refused     │
 -- └─────────────┴──────────────────────────────────────────────────────────────────┘
-use mathlib.Core.Bool.{Bool, true, false}
 use mathlib.Core.List.{List, [], _∷_}
 use Prim.Native.Nat.{ℕ}
 use lib.ListN.{length}
 use Rattle.paper.specs.Answer.{Answer, gives, refused}
+use Rattle.decoding.specs.Found.{Found, flag}
 use Rattle.reader.specs.declared.Flips.{Flips}
 use Rattle.reader.specs.declared.Flips.the-variants.{Nowhere, One, Two}
 use Rattle.reader.specs.declared.Word.{Word}
 use Rattle.reader.specs.declared.Reading.{Reading}
 use Rattle.reader.specs.declared.Reading.the-variants.{Lawful, Refused}
 
-pub record Found : Type 0 where
-  pub «data» : ℕ
-  pub places : List ℕ
-  pub pad : ℕ
-
 abbrev pub placesOf : Flips → List ℕ
 placesOf Nowhere = []
 placesOf (One a) = a ∷ []
 placesOf (Two a b) = a ∷ b ∷ []
-
-abbrev pub flag : Bool → ℕ
-flag true = 1
-flag false = 0
 
 abbrev pub found : Word → Found
 found w = record { «data» = w .«data»; places = placesOf (w .flips); pad = flag (w .«pad_wrong») }

@@ -25,7 +25,7 @@ use Rattle.bch.specs.Corrections.{places, mask}
 use Rattle.frame.specs.Word.{wordOf, padOf, padded, dataOf}
 use Rattle.frame.specs.Sums.{allRight}
 use Rattle.tables.specs.Tables.{entryOf}
-use Rattle.reader.specs.Answers.{Found, flag}
+use Rattle.decoding.specs.Found.{Found, flag}
 
 abbrev pub byteOf : ℕ → ℕ → ℕ
 byteOf f k = f / 2 ^ (k * 8) % 256

@@ -1,5 +1,4 @@
 pub mod Answers
-pub mod Reads
 pub mod ByTables
 pub mod Lists
 pub mod Claims

@@ -22,9 +22,10 @@ use lib.ListN.{length}
 use Rattle.paper.specs.Numbers.{unfit}
 use Rattle.paper.specs.Answer.{Answer}
 use Rattle.laws.specs.Lent.{Lent, Output, ListCall, short}
-use Rattle.octets.specs.Octets.{numbersOf, bytesOf, ragged}
-use Rattle.reader.specs.Answers.{Found, verdict, dataIn, padIn}
-use Rattle.reader.specs.Reads.{Reads}
+use Rattle.radix.specs.Octets.{numbersOf, bytesOf, ragged}
+use Rattle.decoding.specs.Found.{Found}
+use Rattle.reader.specs.Answers.{verdict, dataIn, padIn}
+use Rattle.decoding.specs.Reads.{Reads}
 
 abbrev pub VerdictOf : ℕ → ℕ → Type 0
 VerdictOf f v = (a : Answer Found) × Reads f a × (v ≡ verdict a)

@@ -11,8 +11,9 @@ use mathlib.Core.List.{List, map}
 use Prim.Native.Nat.{ℕ}
 use Rattle.paper.specs.Answer.{Answer, gives, refused}
 use Rattle.laws.specs.Lent.{Lent, _over_}
-use Rattle.octets.specs.Octets.{bytesOf}
-use Rattle.reader.specs.Answers.{Found, placesOf, flag}
+use Rattle.radix.specs.Octets.{bytesOf}
+use Rattle.decoding.specs.Found.{Found, flag}
+use Rattle.reader.specs.Answers.{placesOf}
 use Rattle.reader.specs.ByTables.{Mended, readBy}
 use Rattle.reader.specs.declared.mend.Mended.{Mended as Near-word}
 use Rattle.reader.specs.declared.mend.Mending.{Mending}

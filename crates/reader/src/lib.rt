@@ -4,7 +4,7 @@ ghost use lib.ListN.{length};
 ghost use Rattle.paper.specs.Answer.{listed};
 ghost use Rattle.laws.specs.Lent.{_to_};
 ghost use Rattle.reader.specs.Answers.{placesOf, answer, verdict, dataIn, padIn};
-ghost use Rattle.reader.specs.Reads.{Reads};
+ghost use Rattle.decoding.specs.Reads.{Reads};
 ghost use Rattle.reader.specs.ByTables.{readBy};
 ghost use Rattle.reader.specs.Lists.{ReadsList, ReadsPads};
 use paper::Listed;

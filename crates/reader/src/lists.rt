@@ -3,7 +3,7 @@ ghost use Prim.Native.Nat.{_≤_};
 ghost use lib.ListN.{length};
 ghost use Rattle.laws.specs.Lent.{lent, Written};
 ghost use Rattle.reader.specs.Answers.{verdict, dataIn, padIn};
-ghost use Rattle.reader.specs.Reads.{Reads};
+ghost use Rattle.decoding.specs.Reads.{Reads};
 ghost use Rattle.reader.specs.Lists.{allShown};
 ghost use Rattle.reader.specs.Parts.{ShowsBy};
 use crate::data_of;

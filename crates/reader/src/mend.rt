@@ -5,7 +5,7 @@ ghost use Rattle.bch.specs.Corrections.{places, mask};
 ghost use Rattle.frame.specs.Word.{wordOf};
 ghost use Rattle.frame.specs.Sums.{sums};
 ghost use Rattle.reader.specs.Answers.{placesOf, answer};
-ghost use Rattle.reader.specs.Reads.{Reads};
+ghost use Rattle.decoding.specs.Reads.{Reads};
 ghost use Rattle.reader.specs.ByTables.{nearBy, asReceived, byEntry, mendBy};
 ghost use Rattle.reader.specs.Parts.{mended, mending};
 use crate::Flips;

@@ -7,7 +7,7 @@ use native.Mathlib.Omega.{arith}
 use lib.Dec.{T, ltb, lit<, lit≤}
 use Rattle.paper.specs.Answer.{Answer, gives, refused}
 use Rattle.paper.proofs.Answer.{gives-one}
-use Rattle.octets.specs.Octets.{inBytes, eight, bytesOf}
+use Rattle.radix.specs.Octets.{inBytes, eight, bytesOf}
 use Rattle.poly.specs.Poly.{rem}
 use Rattle.poly.proofs.Division.{is-divisible}
 use Rattle.bch.specs.Code.{differing}
@@ -15,11 +15,11 @@ use Rattle.bch.proofs.Built.{table}
 use Rattle.bch.proofs.Nearest as bch
 use Rattle.frame.specs.Word.{dataOf, Lawful, RunsRight, FrameOf}
 use Rattle.reader.specs.Answers.{answer}
-use Rattle.reader.specs.Reads.{Reads}
+use Rattle.decoding.specs.Reads.{Reads}
 use Rattle.reader.specs.declared.Flips.the-variants.{Nowhere, Two}
 use Rattle.reader.specs.declared.Reading.{Reading}
 use Rattle.reader.specs.declared.Reading.the-variants.{Lawful as Word, Refused}
-use Rattle.reader.proofs.Demands.{one-answer, received-broken}
+use Rattle.decoding.proofs.Demands.{one-answer, received-broken}
 use Rattle.maker.specs.Answers as maker
 use Rattle.maker.specs.Makes.{tooLarge}
 use Rattle.maker.specs.declared.Making.the-variants.{Frame}

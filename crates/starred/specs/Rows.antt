@@ -15,9 +15,10 @@ use mathlib.Core.Path.{_≡_}
 use mathlib.Core.List.{[], _∷_}
 use Prim.Native.Nat.{ℕ, _-_, _^_}
 use Rattle.paper.specs.Answer.{Answer, gives, refused}
-use Rattle.octets.specs.Octets.{bytesOf}
-use Rattle.reader.specs.Answers.{Found, answer}
-use Rattle.reader.specs.Reads.{Reads}
+use Rattle.radix.specs.Octets.{bytesOf}
+use Rattle.decoding.specs.Found.{Found}
+use Rattle.reader.specs.Answers.{answer}
+use Rattle.decoding.specs.Reads.{Reads}
 use Rattle.maker.specs.Answers as maker
 use Rattle.maker.specs.Makes.{Makes}
 use Rattle.hier.specs.Calls as hier

@@ -5,7 +5,7 @@ use mathlib.Core.Logic.{inl, inr}
 use borrow.Author.Needs.{needs}
 use Rattle.paper.specs.Answer.{gives, refused}
 use Rattle.reader.specs.Answers.{answer}
-use Rattle.reader.specs.Reads.{Reads}
+use Rattle.decoding.specs.Reads.{Reads}
 use Rattle.reader.specs.declared.Reading.{Reading}
 use Rattle.reader.specs.declared.Reading.the-variants.{Lawful, Refused}
 use Rattle.host.proofs.Buffer.{small}

@@ -4,8 +4,8 @@ use mathlib.Core.List.{List}
 use Prim.Native.Nat.{ℕ, _-_, _/_, _≤_, _<_}
 use native.Mathlib.Omega.{arith}
 use lib.ListN.{length}
-use Rattle.octets.specs.Octets.{numbersOf}
-use Rattle.octets.proofs.Joined.{numbers-len}
+use Rattle.radix.specs.Octets.{numbersOf}
+use Rattle.radix.proofs.Joined.{numbers-len}
 use Rattle.reader.specs.Answers.{verdict, padIn}
 use Rattle.reader.specs.ByTables.{readBy}
 use Rattle.reader.proofs.Turns.{ShownBy, shown-none, shown-turn, shown-end}

@@ -5,8 +5,8 @@ use native.Mathlib.Nat.{zero-add}
 use native.Mathlib.Omega.{arith}
 use borrow.Author.Needs.{needs}
 use lib.ListN.{length, List·getD-eq-default}
-use Rattle.octets.specs.Octets.{joined, numbersOf}
-use Rattle.octets.proofs.Joined.{numbers-at, numbers-len}
+use Rattle.radix.specs.Octets.{joined, numbersOf}
+use Rattle.radix.proofs.Joined.{numbers-at, numbers-len}
 use Rattle.octets.proofs.number.Statement.{statement}
 use Rattle.octets.proofs.number.Tie as tie
 

@@ -2,7 +2,7 @@
 use mathlib.Core.Path.{ap₂, _∙_}
 use Prim.Native.Nat.{ℕ, _+_, _*_, _^_}
 use borrow.Author.Needs.{needs}
-use Rattle.octets.proofs.Joined.{joined-eight}
+use Rattle.radix.proofs.Joined.{joined-eight}
 use Rattle.octets.proofs.number_at.Statement.{statement}
 use Rattle.octets.proofs.number_at.Tie as tie
 

@@ -3,7 +3,7 @@ use mathlib.Core.Path.{_∙_}
 use native.Mathlib.Omega.{arith}
 use borrow.Author.Needs.{needs}
 use lib.ListN.{length-set}
-use Rattle.octets.proofs.Stored.{eight-stores, eight-is}
+use Rattle.radix.proofs.Stored.{eight-stores, eight-is}
 use Rattle.octets.proofs.put_eight.Statement.{statement}
 use Rattle.octets.proofs.put_eight.Tie as tie
 

@@ -3,7 +3,7 @@ use Prim.Native.Nat.{_+_, _-_, _*_}
 use native.Mathlib.Omega.{arith}
 use borrow.Author.Needs.{needs}
 use borrow.Author.Tests.{le-ltb}
-use Rattle.octets.proofs.Stored.{part-stored}
+use Rattle.radix.proofs.Stored.{part-stored}
 use Rattle.octets.proofs.store.Statement.{statement}
 use Rattle.octets.proofs.store.Tie as tie
 

@@ -2,7 +2,7 @@
 use mathlib.Core.Path.{_≡_, sym, ap, subst, _∙_}
 use Prim.Native.Nat.{ℕ, _%_, _/_}
 use borrow.Author.Needs.{needs}
-use Rattle.reader.specs.Reads.{Reads}
+use Rattle.decoding.specs.Reads.{Reads}
 use Rattle.reader.specs.ByTables.{asReceived, saidBy}
 use Rattle.reader.proofs.ByTables.{read-received}
 use Rattle.reader.proofs.read.Statement.{statement}

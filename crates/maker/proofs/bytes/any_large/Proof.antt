@@ -5,8 +5,8 @@ use Prim.Native.Nat.{ℕ, _-_, _/_, _^_, _≤_, _<_}
 use native.Mathlib.Omega.{arith}
 use borrow.Author.Needs.{needs}
 use lib.ListN.{length, drop}
-use Rattle.octets.specs.Octets.{numbersOf}
-use Rattle.octets.proofs.Joined.{numbers-len}
+use Rattle.radix.specs.Octets.{numbersOf}
+use Rattle.radix.proofs.Joined.{numbers-len}
 use Rattle.maker.specs.Lists.{anyTooLarge}
 use Rattle.maker.proofs.Scan.{large-here, large-further, large-nowhere}
 use Rattle.maker.proofs.bytes.any_large.Statement.{statement}

@@ -4,8 +4,8 @@ use Prim.Native.Nat.{ℕ, _+_, _-_, _/_, _^_, _≤_, _<_}
 use native.Mathlib.Omega.{arith}
 use borrow.Author.Needs.{needs}
 use lib.ListN.{length}
-use Rattle.octets.specs.Octets.{numbersOf, bytesOf}
-use Rattle.octets.proofs.Joined.{numbers-len}
+use Rattle.radix.specs.Octets.{numbersOf, bytesOf}
+use Rattle.radix.proofs.Joined.{numbers-len}
 use Rattle.frame.specs.Word.{FrameOf}
 use Rattle.maker.proofs.Turns.{MadeBy, made-none, bytes-turn, made-end}
 use Rattle.maker.proofs.Scan.{none-large}

@@ -5,7 +5,7 @@ use native.Mathlib.Numerals.{add-one}
 use native.Mathlib.Omega.{arith}
 use borrow.Author.Needs.{needs}
 use lib.ListN.{getD}
-use Rattle.octets.specs.Octets.{joined}
+use Rattle.radix.specs.Octets.{joined}
 use Rattle.octets.proofs.Placed.{one-byte-more}
 use Rattle.octets.proofs.place.gathered.Statement.{statement}
 use Rattle.octets.proofs.place.gathered.Tie as tie

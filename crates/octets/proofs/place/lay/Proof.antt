@@ -6,7 +6,7 @@ use native.Mathlib.Omega.{arith}
 use borrow.Author.Needs.{needs}
 use lib.ListN.{length, drop, set, length-set}
 use lib.Seq.{drop-length}
-use Rattle.octets.specs.Octets.{inBytes}
+use Rattle.radix.specs.Octets.{inBytes}
 use Rattle.octets.proofs.Placed.{laid-more, rest-more}
 use Rattle.octets.proofs.place.lay.Statement.{statement}
 use Rattle.octets.proofs.place.lay.Tie as tie

@@ -6,7 +6,7 @@ use native.Mathlib.Omega.{arith}
 use borrow.Author.Needs.{needs}
 use borrow.Author.Tests.{not-true, not-false}
 use lib.ListN.{length, take, drop, length-take, length-drop}
-use Rattle.octets.specs.Octets.{inBytes}
+use Rattle.radix.specs.Octets.{inBytes}
 use Rattle.octets.specs.Calls.{there}
 use Rattle.octets.proofs.Placed.{is-there, part-placed}
 use Rattle.octets.proofs.place.put.Statement.{statement}

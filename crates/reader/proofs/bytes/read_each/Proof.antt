@@ -6,8 +6,8 @@ use mathlib.Core.List.{List}
 use Prim.Native.Nat.{ℕ, _+_, _-_, _/_, _≤_, _<_}
 use native.Mathlib.Omega.{arith}
 use lib.ListN.{length, getD}
-use Rattle.octets.specs.Octets.{numbersOf}
-use Rattle.octets.proofs.Joined.{numbers-len}
+use Rattle.radix.specs.Octets.{numbersOf}
+use Rattle.radix.proofs.Joined.{numbers-len}
 use Rattle.reader.specs.Answers.{verdict, dataIn}
 use Rattle.reader.specs.ByTables.{readBy}
 use Rattle.reader.proofs.Turns.{ShownBy, BytesBy, shown-none, bytes-none, shown-turn, bytes-turn, shown-end, bytes-end}

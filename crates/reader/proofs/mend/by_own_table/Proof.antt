@@ -2,7 +2,7 @@
 use mathlib.Core.Path.{_≡_, sym, ap, subst, _∙_}
 use Prim.Native.Nat.{ℕ}
 use borrow.Author.Needs.{needs}
-use Rattle.reader.specs.Reads.{Reads}
+use Rattle.decoding.specs.Reads.{Reads}
 use Rattle.reader.specs.ByTables.{mendBy, saidBy}
 use Rattle.reader.proofs.ByTables.{read-mended}
 use Rattle.reader.proofs.mend.by_own_table.Statement.{statement}

@@ -7,7 +7,7 @@ use lib.Dec.{eqb}
 use Rattle.paper.specs.Answer.{gives}
 use Rattle.frame.specs.Word.{dataOf}
 use Rattle.frame.proofs.Frames.{word-padded}
-use Rattle.reader.specs.Answers.{flag}
+use Rattle.decoding.specs.Found.{flag}
 use Rattle.reader.proofs.said.clean.Statement.{statement}
 use Rattle.reader.proofs.said.clean.Tie as tie
 

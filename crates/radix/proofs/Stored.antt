@@ -22,10 +22,10 @@ use lib.Dec.{T, eqb}
 use lib.ListN.{length, take, drop, set, length-append, length-drop}
 use lib.Seq.{take-at, drop-at, drop-drop}
 use Rattle.laws.specs.Bits.{Octets}
-use Rattle.octets.specs.Octets.{numbers, numbersOf, inBytes, eight, bytesOf, stored}
-use Rattle.octets.specs.Claims.{BytesAre, NumbersBack, HighestFirst}
-use Rattle.octets.proofs.Digits.{length-in, in-octets, back}
-use Rattle.octets.proofs.Joined.{numbers-join}
+use Rattle.radix.specs.Octets.{numbers, numbersOf, inBytes, eight, bytesOf, stored}
+use Rattle.radix.specs.Claims.{BytesAre, NumbersBack, HighestFirst}
+use Rattle.radix.proofs.Digits.{length-in, in-octets, back}
+use Rattle.radix.proofs.Joined.{numbers-join}
 
 not-eight : {m : ℕ} → m ≡ 8 → T (eqb m 8)
 not-eight e = subst (λ (k : ℕ). T (eqb k 8)) (sym e) tt

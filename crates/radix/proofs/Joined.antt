@@ -16,8 +16,8 @@ use native.Mathlib.Omega.{arith}
 use lib.ListN.{length, getD, length-append, List·getD-append}
 use lib.Seq.{getD-append-add}
 use Rattle.laws.specs.Bits.{Octets}
-use Rattle.octets.specs.Octets.{joined, numbers, numbersOf}
-use Rattle.octets.proofs.Digits.{joined-lt}
+use Rattle.radix.specs.Octets.{joined, numbers, numbersOf}
+use Rattle.radix.proofs.Digits.{joined-lt}
 
 pub joined-eight : (bs : List ℕ) (at : ℕ)
     → (((getD bs at 0 * 256 + getD bs (at + 1) 0) * 256 + getD bs (at + 2) 0) * 256 + getD bs (at + 3) 0) * 2 ^ 32

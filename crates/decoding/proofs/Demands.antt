@@ -30,10 +30,10 @@ use Rattle.bch.proofs.Built.{table}
 use Rattle.frame.specs.Word.{wordOf, padOf, RunsRight, Lawful, dataOf}
 use Rattle.frame.specs.Sums.{runSums}
 use Rattle.frame.proofs.Sums.{all-right}
-use Rattle.reader.specs.Answers.{Found, flag}
-use Rattle.reader.specs.Reads.{ReadAs, NothingNear, BrokenNear, Reads}
-use Rattle.reader.specs.Claims.{SomeAnswer, OneAnswer, OneWord}
-use Rattle.reader.specs.Claims.{readOf}
+use Rattle.decoding.specs.Found.{Found, flag}
+use Rattle.decoding.specs.Reads.{ReadAs, NothingNear, BrokenNear, Reads}
+use Rattle.decoding.specs.Claims.{SomeAnswer, OneAnswer, OneWord}
+use Rattle.decoding.specs.Claims.{readOf}
 
 pub half : (f : ℕ) → f < 2 ^ 64 → wordOf f < 2 ^ 63
 half f h = omega arith

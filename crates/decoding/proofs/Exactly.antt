@@ -18,11 +18,11 @@ use Rattle.bch.specs.Corrections.{places}
 use Rattle.bch.proofs.Nearest as bch
 use Rattle.bch.proofs.FiveApart.{five-apart, triangle, differences-sym}
 use Rattle.frame.specs.Word.{wordOf, padOf, RunsRight, Lawful, dataOf}
-use Rattle.reader.specs.Answers.{Found, flag}
-use Rattle.reader.specs.Reads.{NothingNear, BrokenNear, Reads}
-use Rattle.reader.specs.Claims.{ReadsBack, Nearest, Only13, Only14, StillLine}
-use Rattle.reader.specs.Claims.{readOf, OnlyRead, OnlyRefused, SendersData, Misread}
-use Rattle.reader.proofs.Demands.{half, near, read-of, received-broken, one-answer, beyond, none-differ}
+use Rattle.decoding.specs.Found.{Found, flag}
+use Rattle.decoding.specs.Reads.{NothingNear, BrokenNear, Reads}
+use Rattle.decoding.specs.Claims.{ReadsBack, Nearest, Only13, Only14, StillLine}
+use Rattle.decoding.specs.Claims.{readOf, OnlyRead, OnlyRefused, SendersData, Misread}
+use Rattle.decoding.proofs.Demands.{half, near, read-of, received-broken, one-answer, beyond, none-differ}
 
 pub nearest : Nearest
 nearest f h a r w c n = bch.nearest (wordOf f) (half f h) (r .sent) w (r .lawful .code) c (near r) n

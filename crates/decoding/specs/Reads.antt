@@ -19,7 +19,7 @@ use Rattle.paper.specs.Numbers.{noWord, runBroken}
 use Rattle.paper.specs.Answer.{Answer, gives, refused}
 use Rattle.bch.specs.Code.{CodeWord, position, differences, distance}
 use Rattle.frame.specs.Word.{wordOf, padOf, RunsRight, Lawful, dataOf}
-use Rattle.reader.specs.Answers.{Found, flag}
+use Rattle.decoding.specs.Found.{Found, flag}
 
 pub record ReadAs (f : ℕ) (r : Found) : Type 0 where
   pub sent : ℕ

@@ -18,7 +18,7 @@ use lib.Arith.{mod-mul, digits-lt, digits-div}
 use lib.ListN.{length, getD, take, drop}
 use lib.Seq.{drop-cons}
 use Rattle.laws.specs.Bits.{Octets}
-use Rattle.octets.specs.Octets.{joined, inBytes}
+use Rattle.radix.specs.Octets.{joined, inBytes}
 
 pub base : (n : ℕ) → 0 < 256 ^ n
 base n = one-le-pow n 256 (zero-lt-suc 255)

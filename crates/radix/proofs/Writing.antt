@@ -9,8 +9,8 @@ use native.Mathlib.Omega.{arith}
 use lib.ListN.{length, drop, length-append}
 use Rattle.laws.specs.Lent.{_over_}
 use Rattle.laws.proofs.Writing.{over-fits}
-use Rattle.octets.specs.Octets.{bytesOf, stored}
-use Rattle.octets.proofs.Stored.{length-bytes, stored-more}
+use Rattle.radix.specs.Octets.{bytesOf, stored}
+use Rattle.radix.proofs.Stored.{length-bytes, stored-more}
 
 -- where there is room for the bytes
 bytes-fit : (ys out : List ℕ) (n : ℕ) → length ys ≡ n → n ≤ length out / 8 → bytesOf ys over out ≡ bytesOf ys ++ drop (n * 8) out

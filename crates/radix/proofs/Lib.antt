@@ -1,0 +1,4 @@
+pub mod Digits
+pub mod Joined
+pub mod Stored
+pub mod Writing

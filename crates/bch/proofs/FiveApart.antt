@@ -16,7 +16,7 @@ use borrow.Author.Tests.{eq-eqb, ne-eqb}
 use lib.Dec.{T, eqb}
 use lib.ListN.{length, take, drop, length-take, length-drop}
 use Rattle.laws.proofs.Xor.{xor-assoc, xor-cancel}
-use Rattle.bch.specs.Code.{CodeWord, keep, differing, differences, distance}
+use Rattle.bch.specs.Code.{keep, differing, differences, distance}
 use Rattle.bch.specs.Corrections.{valid, mask}
 use Rattle.bch.specs.Claims.{FiveApart}
 use Rattle.bch.proofs.Spots.{mask-lt}

@@ -4,7 +4,7 @@
 -- │ one-received                     │ data or its refusal leaves one answer        │
 -- │ one-start, one-send, one-receive │ so for each call                             │
 -- └──────────────────────────────────┴──────────────────────────────────────────────┘
-use mathlib.Core.Path.{_≡_, refl, sym, ap, _∙_}
+use mathlib.Core.Path.{_≡_, refl, sym, _∙_}
 use Rattle.paper.proofs.Answer.{either, known-by}
 use Rattle.bus.specs.declared.Driven.{Driven}
 use Rattle.bus.specs.declared.Driven.the-variants.{Now, Refused as Undriven}

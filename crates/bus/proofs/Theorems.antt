@@ -9,8 +9,6 @@ use mathlib.Core.Path.{_≡_, refl}
 use mathlib.Core.Bool.{Bool, true, false, cond, _&&_}
 use Prim.Native.Nat.{ℕ, _^_, _<_}
 use native.Mathlib.Omega.{arith}
-use Rattle.paper.specs.Numbers.{outside, unless}
-use Rattle.paper.specs.Answer.{gives, owed}
 use Rattle.paper.proofs.Answer.{passed}
 use Rattle.laws.proofs.Truth.{two}
 use Rattle.bus.specs.declared.Bus.{Bus}

@@ -17,7 +17,7 @@ use lib.ListN.{length, getD, take, drop, length-set, length-append, length-drop}
 use lib.Seq.{take-at, getD-append-add, getD-drop}
 use denote.Ref.{now}
 use Rattle.paper.specs.Numbers.{unless}
-use Rattle.paper.specs.Answer.{gives, owed}
+use Rattle.paper.specs.Answer.{gives}
 use Rattle.paper.proofs.Answer.{given}
 use Rattle.laws.proofs.Truth.{and-l, and-r, two}
 use Rattle.dap.specs.declared.Made.the-variants.{Parity, Refused}

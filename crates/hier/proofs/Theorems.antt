@@ -4,7 +4,7 @@
 -- │ round-trip │ made and unharmed: read right, with no flip                        │
 -- └────────────┴────────────────────────────────────────────────────────────────────┘
 use mathlib.Core.Path.{_≡_, refl, ap, ap₂, _∙_, subst}
-use mathlib.Core.Bool.{Bool, true, false, cond}
+use mathlib.Core.Bool.{Bool, cond}
 use Prim.Native.Nat.{ℕ, _+_}
 use native.Mathlib.Omega.{arith}
 use borrow.Author.Tests.{eq-eqb, ltb-true}
@@ -13,8 +13,6 @@ use Rattle.hier.specs.declared.Reading.the-variants.{Word}
 use Rattle.laws.specs.Bits.{bit, unlike}
 use Rattle.block.specs.Symbols.{gap}
 use Rattle.block.specs.Blocks.{symbol, codeOf, flips, Near}
-use Rattle.paper.specs.Numbers.{outside, unless}
-use Rattle.paper.specs.Answer.{gives, owed}
 use Rattle.paper.proofs.Answer.{passed}
 use Rattle.hier.specs.Claims.{Mends, RoundTrip}
 use Rattle.hier.proofs.Answers.{one-read}

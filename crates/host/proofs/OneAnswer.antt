@@ -11,7 +11,7 @@ use mathlib.Core.Logic.{inl, inr}
 use Prim.Native.Nat.{ℕ, _^_, _≤_}
 use native.Mathlib.Omega.{arith}
 use lib.ListN.{length}
-use Rattle.paper.specs.Answer.{Answer, gives, refused, numberOf, numbered}
+use Rattle.paper.specs.Answer.{numberOf, numbered}
 use Rattle.paper.proofs.Answer.{numbered-one}
 use Rattle.frame.proofs.Frames.{frame-high}
 use Rattle.maker.specs.Makes.{Makes}

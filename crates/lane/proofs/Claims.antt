@@ -7,12 +7,12 @@
 use mathlib.Core.Path.{_≡_, refl, sym, ap, ap₂, _∙_, subst}
 use mathlib.Core.List.{List, _++_, append-nil}
 use mathlib.Core.Logic.{inl, inr}
-use Prim.Native.Nat.{ℕ, zero, suc, _%_}
+use Prim.Native.Nat.{ℕ, _%_}
 use native.Mathlib.Omega.{arith}
 use lib.ListN.{length, length-append}
 use Rattle.paper.specs.Numbers.{unfit}
 use Rattle.paper.specs.Answer.{gives, owed}
-use Rattle.paper.proofs.Answer.{either, known-by, given, gives-one, never-both}
+use Rattle.paper.proofs.Answer.{either, known-by, given, never-both}
 use Rattle.laws.specs.Bits.{joining}
 use Rattle.tally.specs.Ranges.{framesIn}
 use Rattle.tally.specs.Counts.{fresh}

@@ -16,7 +16,7 @@ use native.Mathlib.Omega.{arith}
 use lib.ListN.{length, getD, take, set, length-append}
 use lib.Seq.{take-suc, length-take-le}
 use Rattle.laws.specs.Lent.{_over_}
-use Rattle.laws.proofs.Writing.{over-none, over-length, over-more}
+use Rattle.laws.proofs.Writing.{over-length, over-more}
 use Rattle.lane.specs.declared.Totals.{Totals}
 use Rattle.wording.specs.Text.{text}
 use Rattle.printout.specs.Calls.{Says}

@@ -8,18 +8,17 @@
 -- │ shown-of-bytes  │ the same of the frames of bytes                              │
 -- └─────────────────┴──────────────────────────────────────────────────────────────┘
 use mathlib.Core.Path.{_≡_, refl, sym, ap, ap₂, _∙_, subst}
-use mathlib.Core.Bool.{Bool, true, false, cond}
+use mathlib.Core.Bool.{Bool, cond}
 use mathlib.Core.List.{List, [], map}
-use Prim.Native.Nat.{ℕ, zero, suc, _+_, _*_, _/_, _%_, _^_, _<_, _≤_}
+use Prim.Native.Nat.{ℕ, zero, suc, _*_, _/_, _%_, _^_, _<_, _≤_}
 use native.Mathlib.Decide.{ℕ-discrete}
 use native.Mathlib.Nat.{div-one, mod-one, mod-eq-of-lt, mod-lt}
 use native.Mathlib.Numerals.{add-one}
 use native.Mathlib.Omega.{arith}
-use borrow.Author.Tests.{eq-eqb, ne-eqb, eqb-true, eqb-false}
-use lib.Bits.{bitXor, xor-zero-r, xor-shr}
+use borrow.Author.Tests.{eq-eqb, ne-eqb}
+use lib.Bits.{bitXor, xor-shr}
 use lib.Dec.{eqb, lit<}
-use lib.ListN.{length, getD}
-use lib.Pow.{pow-pos}
+use lib.ListN.{getD}
 use Rattle.paper.specs.Answer.{Answer, gives, refused}
 use Rattle.laws.specs.Bits.{Octets}
 use Rattle.laws.specs.Lent.{Output, AllShow, Written}
@@ -27,8 +26,7 @@ use Rattle.laws.proofs.Writing.{each-made}
 use Rattle.radix.specs.Octets.{numbersOf}
 use Rattle.radix.proofs.Joined.{numbers-lt}
 use Rattle.poly.specs.Poly.{rem}
-use Rattle.poly.proofs.Division.{rem-lt, is-divisible}
-use Rattle.bch.specs.Code.{position, differences}
+use Rattle.bch.specs.Code.{position}
 use Rattle.bch.specs.Corrections.{mask, places, Entry}
 use Rattle.frame.specs.Word.{wordOf, padOf, padded, dataOf}
 use Rattle.frame.proofs.Frames.{word-padded}

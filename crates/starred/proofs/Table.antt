@@ -5,7 +5,7 @@ use mathlib.Core.Logic.{inl}
 use Prim.Native.Nat.{ℕ, _/_, _^_}
 use native.Mathlib.Omega.{arith}
 use lib.Dec.{T, ltb, lit<, lit≤}
-use Rattle.paper.specs.Answer.{Answer, gives, refused}
+use Rattle.paper.specs.Answer.{gives}
 use Rattle.paper.proofs.Answer.{gives-one}
 use Rattle.radix.specs.Octets.{inBytes, eight, bytesOf}
 use Rattle.poly.specs.Poly.{rem}

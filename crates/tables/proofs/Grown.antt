@@ -6,14 +6,14 @@
 -- │ all-rows     │ those of eight bytes, by their places                           │
 -- │ byte-turn    │ a byte more of a number, from the lowest on                     │
 -- └──────────────┴─────────────────────────────────────────────────────────────────┘
-use mathlib.Core.Path.{_≡_, refl, sym, ap, ap₂, _∙_, subst}
+use mathlib.Core.Path.{_≡_, refl, sym, ap, _∙_, subst}
 use mathlib.Core.List.{List, [], _∷_, _++_, map}
-use Prim.Native.Nat.{ℕ, zero, suc, _+_, _-_, _*_, _/_, _%_, _^_, _<_, _≤_}
+use Prim.Native.Nat.{ℕ, zero, suc, _+_, _-_, _*_, _/_, _%_, _^_, _<_}
 use native.Mathlib.Decide.{decLt}
 use native.Mathlib.Nat.{mod-lt, zero-mul, one-mul, add-mul, pow-suc, not-suc-le-zero, le-of-suc-le-suc}
 use native.Mathlib.Omega.{arith}
 use lib.Bits.{bitXor, xor-shifted, xor-comm}
-use lib.ListN.{length, getD, length-append, length-map, List·getD-append, List·getD-map}
+use lib.ListN.{length, getD, length-append, length-map, List·getD-append}
 use lib.Pow.{pow-pos, pow-add, mod-pow-add, shl-lt}
 use lib.Seq.{getD-append-add}
 

@@ -11,10 +11,12 @@ use Rattle.hier.proofs.block_of.Tie as tie
 
 returns : tie.Need-returns
 unfolding blockOf
-returns c = let a = c .before .before .before in
+returns c =
+    let a = c .before .before .before in
     let d = a .before .args .d in
+    let fourth = c .symbol-of4 .ensures .0 ∙ ap (λ (n : ℕ). member ((d / 16 / 3 + 2 * (d / 16 % 3)) % 3) (n % 2)) (sym (div-one (d % 16))) in
     ap₄ (λ p q r s. p * 4096 + q * 256 + r * 16 + s) (a .symbol-of .ensures .0) (c .before .before .symbol-of2 .ensures .0)
-    (c .before .symbol-of3 .ensures .0) (c .symbol-of4 .ensures .0 ∙ ap (λ (n : ℕ). member ((d / 16 / 3 + 2 * (d / 16 % 3)) % 3) (n % 2)) (sym (div-one (d % 16))))
+    (c .before .symbol-of3 .ensures .0) fourth
 
 pub block-of-spec : {M : Type 1} → statement M
 block-of-spec =

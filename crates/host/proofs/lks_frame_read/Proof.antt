@@ -3,7 +3,7 @@
 use mathlib.Core.Path.{_≡_, refl, subst}
 use mathlib.Core.Logic.{inl, inr}
 use borrow.Author.Needs.{needs}
-use Rattle.paper.specs.Answer.{gives, refused}
+use Rattle.paper.specs.Answer.{refused}
 use Rattle.reader.specs.Answers.{answer}
 use Rattle.decoding.specs.Reads.{Reads}
 use Rattle.reader.specs.declared.Reading.{Reading}

@@ -1,6 +1,6 @@
 -- `reader::read` meets its contract: where the remainder is 0 no table is needed.
-use mathlib.Core.Path.{_≡_, sym, ap, subst, _∙_}
-use Prim.Native.Nat.{ℕ, _%_, _/_}
+use mathlib.Core.Path.{sym, ap, subst, _∙_}
+use Prim.Native.Nat.{ℕ, _%_}
 use borrow.Author.Needs.{needs}
 use Rattle.decoding.specs.Reads.{Reads}
 use Rattle.reader.specs.ByTables.{asReceived, saidBy}

@@ -1,5 +1,5 @@
 -- `reader::read_by` meets its contract: mended, then said; a clean frame needs neither.
-use mathlib.Core.Path.{_≡_, sym, ap, _∙_}
+use mathlib.Core.Path.{sym, ap, _∙_}
 use Prim.Native.Nat.{ℕ}
 use borrow.Author.Needs.{needs}
 use Rattle.reader.specs.ByTables.{mendBy, saidBy, readBy}

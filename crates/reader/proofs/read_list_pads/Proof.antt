@@ -1,5 +1,5 @@
 -- `reader::read_list_pads` meets its contract: the tests of the three outputs, then the loop.
-use mathlib.Core.Path.{_≡_, refl}
+use mathlib.Core.Path.{refl}
 use borrow.Author.Tests.{lt-ltb, le-ltb}
 use borrow.Author.Needs.{needs}
 use Rattle.laws.proofs.Writing.{call-refused, call-done}

@@ -1,5 +1,5 @@
 -- `maker::bytes::make_bytes` meets its contract: the tests in the paper's order, then the loop.
-use mathlib.Core.Path.{_≡_, refl, sym, _∙_}
+use mathlib.Core.Path.{refl, sym, _∙_}
 use borrow.Author.Needs.{needs}
 use borrow.Author.Tests.{lt-ltb, le-ltb, eq-eqb, ne-eqb}
 use Rattle.laws.proofs.Writing.{call-refused, call-done}

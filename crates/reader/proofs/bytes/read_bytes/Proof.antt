@@ -1,5 +1,5 @@
 -- `reader::bytes::read_bytes` meets its contract: the tests of every length, then the loop.
-use mathlib.Core.Path.{_≡_, refl}
+use mathlib.Core.Path.{refl}
 use borrow.Author.Tests.{lt-ltb, le-ltb, eq-eqb, ne-eqb}
 use borrow.Author.Needs.{needs}
 use Rattle.laws.proofs.Writing.{call-refused, call-done}

@@ -1,5 +1,5 @@
 -- `reader::mend::by_own_table` meets its contract, by the table's rule.
-use mathlib.Core.Path.{_≡_, sym, ap, subst, _∙_}
+use mathlib.Core.Path.{sym, ap, subst, _∙_}
 use Prim.Native.Nat.{ℕ}
 use borrow.Author.Needs.{needs}
 use Rattle.decoding.specs.Reads.{Reads}

@@ -1,5 +1,5 @@
 -- `reader::said::clean` meets its contract: a word is that of its frame.
-use mathlib.Core.Path.{_≡_, sym, ap, _∙_}
+use mathlib.Core.Path.{sym, ap, _∙_}
 use mathlib.Core.List.{[]}
 use Prim.Native.Nat.{ℕ, _/_, _%_}
 use borrow.Author.Needs.{needs}

@@ -1,5 +1,4 @@
 -- `reader::said::lawful` meets its contract, by the run sums.
-use mathlib.Core.Path.{_≡_, refl}
 use borrow.Author.Tests.{eq-eqb, ne-eqb}
 use borrow.Author.Needs.{needs}
 use Rattle.reader.proofs.said.lawful.Statement.{statement}

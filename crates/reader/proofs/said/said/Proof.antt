@@ -1,5 +1,5 @@
 -- `reader::said::said` meets its contract.
-use mathlib.Core.Path.{_≡_, sym, ap, _∙_}
+use mathlib.Core.Path.{sym, ap, _∙_}
 use borrow.Author.Needs.{needs}
 use Rattle.reader.specs.ByTables.{saidBy}
 use Rattle.reader.specs.Parts.{mending}

@@ -1,7 +1,8 @@
 -- What `text` owes.
 -- ┌───────────────┬────────────────────────────────────────────────────────────────┐
 -- │ Says u o₀ n o │ the listing of u is the first n bytes of o, which is o₀ past   │
--- │               │ them                                                           │
+-- │               │ them. That n counts bytes of o follows, and is stated for      │
+-- │               │ callers to find                                                │
 -- └───────────────┴────────────────────────────────────────────────────────────────┘
 use mathlib.Core.Path.{_≡_}
 use mathlib.Core.List.{List}

@@ -1,9 +1,9 @@
 -- What only private functions cite.
--- ┌───────────────┬────────────────────────────────────────────────────────────────┐
--- │ inlaid at p o │ o with the bytes p from place at on                            │
--- │ Inlays o₀ at p  │ they were laid there: o is `inlaid`, and r the place after     │
--- │   r o         │ them                                                           │
--- └───────────────┴────────────────────────────────────────────────────────────────┘
+-- ┌────────────────┬────────────────────────────────────────────────────────────────┐
+-- │ inlaid at p o  │ o with the bytes p from place at on                            │
+-- │ Inlays o₀ at p │ they were laid there: o is `inlaid` of o₀, and r the place     │
+-- │   r o          │ after them                                                     │
+-- └────────────────┴────────────────────────────────────────────────────────────────┘
 use mathlib.Core.Path.{_≡_}
 use mathlib.Core.List.{List, _++_}
 use Prim.Native.Nat.{ℕ, _+_}

@@ -31,16 +31,20 @@ pub(crate) fn usage() -> i32
     say(b"usage: listing [FILE]; without FILE it counts the frames on standard input\n")
 }
 
-// The listing, written whole. What a file system takes back later it tells when the output is closed.
+// Whether the whole text is written. What a file system takes back later it tells when the output is closed.
+fn written(text: &[u8]) -> bool {
+    if !io::write_all(STDOUT_FILENO, text) {
+        return false;
+    }
+    libc::close(STDOUT_FILENO) == 0
+}
+
 fn print(u: Totals) -> i32
     ensures { λ r. ⌜ Status r ⌝ }
 {
     let mut text = [0u8; 256];
     let n = printout::text(u, &mut text);
-    if !io::write_all(STDOUT_FILENO, &text[..n]) {
-        return cannot(b"listing: cannot write ", b"the whole listing");
-    }
-    if libc::close(STDOUT_FILENO) < 0 {
+    if !written(&text[..n]) {
         return cannot(b"listing: cannot write ", b"the whole listing");
     }
     DONE

@@ -44,20 +44,6 @@ static void tables(void)
                 bytes[k][1 << j | b] = (uint16_t)(bytes[k][b] ^ sums[63 - (8 * k + j)]);
 }
 
-// a number in eight bytes, highest first; the machine is little-endian
-static inline uint64_t get(const uint8_t *b)
-{
-    uint64_t x;
-    __builtin_memcpy(&x, b, 8);
-    return __builtin_bswap64(x);
-}
-
-static inline void put(uint8_t *b, uint64_t x)
-{
-    x = __builtin_bswap64(x);
-    __builtin_memcpy(b, &x, 8);
-}
-
 // The sums of a frame in eight bytes, highest first,
 static inline unsigned sums_at(const uint8_t *b)
 {

@@ -1,8 +1,9 @@
-/* Frames of the serial line, for host programs in C and C++ on x86-64. Link with liblakshrumov.a or liblakshrumov.so, as `./run --install`
- * lays them down, or with libhost.a, as `rt staticlib host` makes it.
+/* Frames of the serial line and capture files, for host programs in C and C++ on x86-64. Link with liblakshrumov.a or liblakshrumov.so, as
+ * `./run --install` lays them down, or with libhost.a, as `rt staticlib host` makes it.
  *
  * A frame is 64 line bits held as a 64-bit number, position 0 as its highest bit. A data word is a number below 2^48.
- * A list of 64-bit numbers is a run of bytes, eight bytes a number, highest first.
+ * A list of 64-bit numbers is a run of bytes, eight bytes a number, highest first. A capture file is the frames of a lane, then any notes,
+ * then a trailer: see below.
  *
  * What a caller owes, in every call:
  *   - a pointer and the length beside it describe bytes that may be read, and written where the pointer is not const;
@@ -12,27 +13,31 @@
  * Buffers need no alignment. Nothing is kept after the call, nothing is allocated, and no call has a state: any calls may run at the same
  * time, in any threads, on different buffers. A call needs at most 13.7 KB of stack; docs/C-INTERFACE.md says how much each.
  *
- * A refusal is a number of the paper's table and no other answer: every byte lent is then as it was before the call. Where 12 and
- * another refusal meet, 12 is given. Bytes of an output past the written ones always stay as they were.
+ * A refusal is a number of the paper's table and no other answer: every byte lent is then as it was before the call. Where refusals meet,
+ * the one that stands first in the call's list below is given. Bytes of an output past the written ones always stay as they were.
  */
 #ifndef LAKSHRUMOV_H
 #define LAKSHRUMOV_H
 
-/* Where a compiler comes without headers: declare size_t, uint8_t and uint64_t first and define LAKSHRUMOV_PLAIN_TYPES. */
+/* Where a compiler comes without headers: declare size_t, uint8_t, uint32_t and uint64_t first and define LAKSHRUMOV_PLAIN_TYPES. */
 #ifndef LAKSHRUMOV_PLAIN_TYPES
 #include <stddef.h>
 #include <stdint.h>
 #endif
 
 /* The version of this header and of its library: ten thousand times the major, a hundred times the minor number, and the patch. The major
- * number changes when a program that was built against an older header could be misled. */
-#define LKS_VERSION 10000
+ * number changes when a program that was built against an older header could be misled, the minor number when calls are added. */
+#define LKS_VERSION 10100
 
-/* The refusals that frames have. */
+/* The refusals of frames, */
 #define LKS_TOO_LARGE 11  /* a data word of 2^48 or more */
 #define LKS_LENGTH 12     /* a length that does not fit, or is not divisible by eight where numbers are meant */
 #define LKS_NO_WORD 13    /* no code word within two flips */
 #define LKS_RUN_BROKEN 14 /* the code word within two flips has a wrong run bit */
+/* and of captures, which have 12 too. */
+#define LKS_NO_TAG 21          /* a file under 24 bytes, or without the tag */
+#define LKS_DISAGREEING 22     /* the trailer's numbers disagree with the file or with each other */
+#define LKS_TOO_MANY_FRAMES 23 /* over 8,000 frames */
 
 /* The answer of lks_frame_read:
  *   bytes 0..7   the data word, highest byte first
@@ -42,6 +47,22 @@
  */
 #define LKS_ANSWER_BYTES 12
 #define LKS_NO_PLACE 255
+
+/* A capture file, all numbers highest byte first:
+ *   the frames   eight bytes each, any 64 bits
+ *   the notes    any bytes, or none
+ *   the trailer  4C 43 41 50, the lane in four bytes, the number of frames in eight, and in eight the distance from the trailer's first
+ *                byte back to the first frame, which is the length of the file less 24
+ */
+#define LKS_TRAILER_BYTES 24
+#define LKS_MOST_FRAMES 8000
+#define LKS_MOST_FILE_BYTES 65536
+
+/* The answer of lks_capture_head and lks_capture_read, highest byte first:
+ *   bytes 0..3   the lane
+ *   bytes 4..11  the number of frames; the notes are the bytes of the file from eight times that number on, up to 24 before its end
+ */
+#define LKS_CAPTURE_ANSWER_BYTES 12
 
 #ifdef __cplusplus
 extern "C" {
@@ -71,6 +92,28 @@ uint64_t lks_frames_make(const uint8_t *data, size_t data_len, uint8_t *frames, 
  *   12  frames_len or data_len is not divisible by eight, data_len is below frames_len, or verdicts_len is below frames_len / 8 */
 uint64_t lks_frames_read(const uint8_t *frames, size_t frames_len, uint8_t *data, size_t data_len, uint8_t *verdicts,
                          size_t verdicts_len);
+
+/* Writes the capture file of a lane, its frames and its notes to the start of file.
+ * Returns the length of the file, frames_len + notes_len + 24. A number below 24 is a refusal:
+ *   12  frames_len is not divisible by eight, or the file would pass 65,536 bytes, or file_len is below its length
+ *   23  over 8,000 frames, that is, frames_len is above 64,000 */
+uint64_t lks_capture_write(uint32_t lane, const uint8_t *frames, size_t frames_len, const uint8_t *notes, size_t notes_len, uint8_t *file,
+                           size_t file_len);
+
+/* Says the lane and the number of frames of a capture file, and writes the first 12 bytes of answer.
+ * Returns 0, or
+ *   12  answer_len is below 12, or file_len is above 65,536
+ *   21  file_len is below 24, or the last 24 bytes do not begin with the tag
+ *   22  the distance is not file_len - 24, or it is below eight times the number of frames
+ *   23  over 8,000 frames */
+uint64_t lks_capture_head(const uint8_t *file, size_t file_len, uint8_t *answer, size_t answer_len);
+
+/* The same, and writes the frames of the file, eight bytes each, to the start of frames.
+ * Returns 0, or
+ *   12  answer_len is below 12, or file_len is above 65,536, or frames_len is not divisible by eight or is below 64,000, however many
+ *       frames there are
+ *   21, 22, 23  as lks_capture_head */
+uint64_t lks_capture_read(const uint8_t *file, size_t file_len, uint8_t *frames, size_t frames_len, uint8_t *answer, size_t answer_len);
 
 #ifdef __cplusplus
 }

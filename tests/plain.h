@@ -6,6 +6,7 @@
 #ifdef LAKSHRUMOV_PLAIN_TYPES
 typedef __SIZE_TYPE__ size_t;
 typedef __UINT8_TYPE__ uint8_t;
+typedef __UINT32_TYPE__ uint32_t;
 typedef __UINT64_TYPE__ uint64_t;
 #define NULL ((void *)0)
 #ifdef __cplusplus

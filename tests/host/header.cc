@@ -7,10 +7,15 @@
 #error this test is of major version 1
 #endif
 
+static uint8_t room[8 * LKS_MOST_FRAMES];
+
 static uint64_t (*frame_make)(uint64_t) = lks_frame_make;
 static uint64_t (*frame_read)(uint64_t, uint8_t *, size_t) = lks_frame_read;
 static uint64_t (*frames_make)(const uint8_t *, size_t, uint8_t *, size_t) = lks_frames_make;
 static uint64_t (*frames_read)(const uint8_t *, size_t, uint8_t *, size_t, uint8_t *, size_t) = lks_frames_read;
+static uint64_t (*capture_write)(uint32_t, const uint8_t *, size_t, const uint8_t *, size_t, uint8_t *, size_t) = lks_capture_write;
+static uint64_t (*capture_head)(const uint8_t *, size_t, uint8_t *, size_t) = lks_capture_head;
+static uint64_t (*capture_read)(const uint8_t *, size_t, uint8_t *, size_t, uint8_t *, size_t) = lks_capture_read;
 
 int main()
 {
@@ -22,6 +27,15 @@ int main()
         fail("header: frames read from C++");
     if (frame_read(frame_make(1), answer, sizeof answer) != 0 || number_at(answer) != 1)
         fail("header: a frame read from C++");
-    printf("header: the four entries called from C++, 2 words there and back\n");
+    uint8_t file[16 + 1 + LKS_TRAILER_BYTES], label[LKS_CAPTURE_ANSWER_BYTES], again[LKS_CAPTURE_ANSWER_BYTES];
+    if (capture_write(7, frames, 16, data, 1, file, sizeof file) != sizeof file)
+        fail("header: a capture written from C++");
+    if (capture_head(file, sizeof file, label, sizeof label) != 0)
+        fail("header: a capture's head from C++");
+    if (capture_read(file, sizeof file, room, sizeof room, again, sizeof again) != 0 || memcmp(room, frames, 16) != 0)
+        fail("header: a capture read from C++");
+    if (memcmp(label, again, sizeof label) != 0 || number_at(label) != (uint64_t)7 << 32 || number_at(label + 4) != 2)
+        fail("header: lane and count of a capture from C++");
+    printf("header: the seven entries called from C++, 2 words there and back, and their frames through a capture\n");
     return 0;
 }

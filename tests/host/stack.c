@@ -4,13 +4,15 @@
 #include "../plain.h"
 #include "../../include/lakshrumov.h"
 
-enum { AREA = 1 << 17, MOST = 512, PAINT = 0x5A };
+enum { AREA = 1 << 17, MOST = 512, PAINT = 0x5A, ARGUMENTS = 7 };
+enum { MOST_COUNT = 8189, MOST_NOTES = 1512 }; // of frames for which a file has room, and of notes behind 8,000 of them
 
-static uint8_t area[AREA] __attribute__((aligned(16)));
+static uint8_t area[AREA + 16] __attribute__((aligned(16))); // and what its caller lays above it: the seventh argument
 static uint8_t in[8 * MOST], out[8 * MOST], verdicts[MOST];
+static uint8_t frames[8 * (MOST_COUNT + 1)], file[8 * MOST_COUNT + MOST_NOTES + LKS_TRAILER_BYTES];
 
-// Calls the entry with six arguments, with its stack below the top.
-void on_stack(void (*entry)(void), uint8_t *top, const uint64_t arguments[6]);
+// Calls the entry with seven arguments, the last of them at the top, with its stack below that. Returns its answer.
+uint64_t on_stack(void (*entry)(void), uint8_t *top, const uint64_t arguments[ARGUMENTS]);
 __asm__(".pushsection .text\n"
         "on_stack:\n"
         "    push %rbx\n"
@@ -24,6 +26,8 @@ __asm__(".pushsection .text\n"
         "    mov 24(%r10), %rcx\n"
         "    mov 32(%r10), %r8\n"
         "    mov 40(%r10), %r9\n"
+        "    mov 48(%r10), %r11\n"
+        "    mov %r11, (%rsp)\n"
         "    call *%rax\n"
         "    mov %rbx, %rsp\n"
         "    pop %rbx\n"
@@ -32,13 +36,14 @@ __asm__(".pushsection .text\n"
 
 static size_t most; // that an entry touched since its first call
 
-static void called(void (*entry)(void), const uint64_t arguments[6])
+static uint64_t called(void (*entry)(void), const uint64_t arguments[ARGUMENTS])
 {
+    uint64_t answer = 0;
     for (int turn = 0; turn < 2; turn++) {
         int paint = turn ? PAINT : 255 - PAINT;
         size_t low = 0;
         memset(area, paint, AREA);
-        on_stack(entry, area + AREA, arguments);
+        answer = on_stack(entry, area + AREA, arguments);
         while (low < AREA && area[low] == paint)
             low++;
         if (low == 0)
@@ -46,6 +51,7 @@ static void called(void (*entry)(void), const uint64_t arguments[6])
         if (AREA - low > most)
             most = AREA - low;
     }
+    return answer;
 }
 
 static void row(const char *name)
@@ -64,11 +70,11 @@ enum { WORDS = sizeof some_data / 8, FRAMES = sizeof some_frames / 8 };
 static void single(void)
 {
     for (size_t i = 0; i < WORDS; i++)
-        called((void (*)(void))lks_frame_make, (uint64_t[6]){some_data[i]});
+        called((void (*)(void))lks_frame_make, (uint64_t[ARGUMENTS]){some_data[i]});
     row("lks_frame_make");
     for (size_t i = 0; i < FRAMES; i++)
         for (size_t len = LKS_ANSWER_BYTES - 1; len <= LKS_ANSWER_BYTES; len++)
-            called((void (*)(void))lks_frame_read, (uint64_t[6]){some_frames[i], (uint64_t)out, len});
+            called((void (*)(void))lks_frame_read, (uint64_t[ARGUMENTS]){some_frames[i], (uint64_t)out, len});
     row("lks_frame_read");
 }
 
@@ -81,9 +87,53 @@ static void lists(const uint64_t *numbers, size_t kinds, void (*entry)(void), in
         for (size_t i = 0; i < MOST; i++)
             put_number(in + 8 * i, numbers[(from + i) % kinds]);
         for (size_t k = 0; k < sizeof lengths / sizeof lengths[0]; k++)
-            called(entry, (uint64_t[6]){(uint64_t)in, lengths[k], (uint64_t)out, sizeof out, reads ? (uint64_t)verdicts : 0,
+            called(entry, (uint64_t[ARGUMENTS]){(uint64_t)in, lengths[k], (uint64_t)out, sizeof out, reads ? (uint64_t)verdicts : 0,
                                         reads ? sizeof verdicts : 0});
     }
+}
+
+// A capture of so many frames and bytes of notes. Kind 1: frames of a ragged length; 2: an output a byte too short.
+static void write_capture(size_t count, size_t notes, int kind)
+{
+    size_t size = 8 * count + notes + LKS_TRAILER_BYTES;
+    uint64_t answer = called((void (*)(void))lks_capture_write, (uint64_t[ARGUMENTS]){7, (uint64_t)frames, 8 * count + (kind == 1),
+                                                                (uint64_t)in, notes, (uint64_t)file, size - (kind == 2)});
+    if (count <= LKS_MOST_FRAMES && answer != (kind == 1 || kind == 2 ? LKS_LENGTH : size))
+        fail("stack: lks_capture_write returned %llu", (shown)answer);
+}
+
+// The trailer of a file. Kind 1: no tag; 2: more frames than there is room for. In the calls on it, 3: an answer a byte too short.
+static void lay_capture(size_t count, size_t notes, int kind)
+{
+    uint8_t *trailer = file + 8 * count + notes;
+    put_number(trailer, 0x4C43415000000007u ^ (kind == 1 ? (uint64_t)1 << 32 : 0));
+    put_number(trailer + 8, kind == 2 ? MOST_COUNT + 1 : count);
+    put_number(trailer + 16, 8 * count + notes);
+}
+
+static void head_capture(size_t count, size_t notes, int kind)
+{
+    lay_capture(count, notes, kind);
+    called((void (*)(void))lks_capture_head, (uint64_t[ARGUMENTS]){(uint64_t)file, 8 * count + notes + LKS_TRAILER_BYTES, (uint64_t)out,
+                                                                   LKS_CAPTURE_ANSWER_BYTES - (kind == 3)});
+}
+
+static void read_capture(size_t count, size_t notes, int kind)
+{
+    lay_capture(count, notes, kind);
+    called((void (*)(void))lks_capture_read, (uint64_t[ARGUMENTS]){(uint64_t)file, 8 * count + notes + LKS_TRAILER_BYTES, (uint64_t)frames,
+                                                                   sizeof frames, (uint64_t)out, LKS_CAPTURE_ANSWER_BYTES - (kind == 3)});
+}
+
+static void captures(const char *name, void (*call)(size_t count, size_t notes, int kind))
+{
+    static const size_t counts[] = {0, 1, 50, LKS_MOST_FRAMES, LKS_MOST_FRAMES + 1, MOST_COUNT};
+    for (size_t i = 0; i < sizeof counts / sizeof counts[0]; i++)
+        for (int kind = 0; kind < 4; kind++) {
+            call(counts[i], 0, kind);
+            call(counts[i], MOST_NOTES, kind);
+        }
+    row(name);
 }
 
 int main(void)
@@ -94,5 +144,8 @@ int main(void)
     row("lks_frames_make");
     lists(some_frames, FRAMES, (void (*)(void))lks_frames_read, 1);
     row("lks_frames_read");
+    captures("lks_capture_write", write_capture);
+    captures("lks_capture_head", head_capture);
+    captures("lks_capture_read", read_capture);
     return 0;
 }

@@ -1,5 +1,6 @@
 -- Each call's contract leaves one answer.
 -- ┌──────────────┬──────────────────────────────────────────────────────────────────┐
+-- │ one-files    │ of any two calls that write one capture                          │
 -- │ one-call     │ of any two calls on one file                                     │
 -- │ one-filed …  │ the claims of specs/Claims.antt by these names                   │
 -- └──────────────┴──────────────────────────────────────────────────────────────────┘
@@ -43,7 +44,7 @@ answer-one = known-by answer (either Found Unlabelled) back
     back (Found h) = refl
     back (Unlabelled n) = refl
 
-one-files : (m n : ℕ) (c : Capture) (o o′ : Lent) (a b : Answer ℕ) → m ≡ n → o .was ≡ o′ .was → Files m c o a → Files n c o′ b
+pub one-files : (m n : ℕ) (c : Capture) (o o′ : Lent) (a b : Answer ℕ) → m ≡ n → o .was ≡ o′ .was → Files m c o a → Files n c o′ b
     → (a ≡ b) × (o .is ≡ o′ .is)
 one-files m n c o o′ a b k e p q =
     let s : a ≡ b = p .answer ∙ ap (λ (i : ℕ). owed i (length (fileOf c))) k ∙ sym (q .answer) in

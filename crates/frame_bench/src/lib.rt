@@ -1,8 +1,18 @@
 // The calls that bench/ measures, exported to C on 64-bit numbers.
+ghost use mathlib.Core.Path.{_≡_};
+ghost use lib.Dec.{leb};
+ghost use lib.ListN.{length};
 ghost use Rattle.paper.specs.Answer.{numbered};
-ghost use Rattle.laws.specs.Lent.{_to_};
+ghost use Rattle.laws.specs.Lent.{_to_, _over_};
+ghost use Rattle.filing.specs.File.{mostFrames};
+ghost use Rattle.capture.specs.Answers.{filed};
+ghost use Rattle.capture.specs.Calls.{Writes, FileCall};
+ghost use Rattle.host.specs.Entries.{returned};
+ghost use Rattle.host.specs.Captures.{Returned};
 ghost use Rattle.maker.specs.Lists.{MakesList};
 ghost use Rattle.reader.specs.Lists.{ReadsList, ReadsPads, VerdictOf};
+use capture::Filed;
+use capture::Labelled;
 
 #[no_mangle]
 pub extern "C" fn bench_read(frame: u64) -> u8
@@ -36,4 +46,37 @@ pub extern "C" fn bench_read_list_pads(
         (pads .entry to pads .exit) (numbered n) ⌝ }
 {
     paper::number_of(reader::read_list_pads(frames, data, verdicts, pads))
+}
+
+fn length_of(f: Filed) -> u64
+    ensures { λ n. ⌜ n ≡ returned (filed f) ⌝ }
+{
+    match f {
+        Filed::Length(n) => n as u64,
+        Filed::Refused(n) => n as u64,
+    }
+}
+
+#[no_mangle]
+pub extern "C" fn bench_capture_write(
+    lane: u32,
+    frames: &[u64],
+    notes: &[u8],
+    file: &mut [u8],
+) -> u64
+    ensures { λ n. ⌜ Returned (Writes lane (now (frames .entry)) (now (notes .entry)) (file .entry to file .exit)) n ⌝ }
+{
+    length_of(capture::write(lane, frames, notes, file))
+}
+
+#[no_mangle]
+pub extern "C" fn bench_capture_read(file: &[u8], frames: &mut [u64]) -> u8
+    ensures { λ n. ⌜ FileCall (leb mostFrames (length (now (frames .entry))))
+        (λ c u. now (frames .exit) ≡ c .frames over now (frames .entry)) (now (frames .exit) ≡ now (frames .entry))
+        (now (file .entry)) (numbered n) ⌝ }
+{
+    match capture::read(file, frames) {
+        Labelled::Found(_) => 0,
+        Labelled::Refused(n) => n,
+    }
 }

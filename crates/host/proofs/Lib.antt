@@ -1,2 +1,4 @@
 pub mod Buffer
+pub mod Labels
 pub mod OneAnswer
+pub mod OneFile

@@ -5,6 +5,10 @@
 -- │ OneOut      │ no second number or buffer meets that of `lks_frame_read`        │
 -- │ OneMade     │ nor a second number or list that of `lks_frames_make`            │
 -- │ OneRead     │ nor that of `lks_frames_read`                                    │
+-- │ OneFile     │ nor that of `lks_capture_write`                                  │
+-- │ NoRefusal   │ a length it returns is no refusal: it is at least 24             │
+-- │ OneLabel    │ no second number or buffer meets that of `lks_capture_head`      │
+-- │ OneTaken    │ nor those of `lks_capture_read`                                  │
 -- └─────────────┴──────────────────────────────────────────────────────────────────┘
 use mathlib.Core.Path.{_≡_}
 use mathlib.Core.List.{List}
@@ -15,6 +19,7 @@ use Rattle.laws.specs.Lent.{Lent}
 use Rattle.maker.specs.Lists.{MakesBytes}
 use Rattle.reader.specs.Lists.{ReadsBytes}
 use Rattle.host.specs.Entries.{MakesCode, ReadsOut}
+use Rattle.host.specs.Captures.{WritesFile, ReadsLabel, ReadsFile}
 
 abbrev pub OneCode : Type 0
 OneCode = (d m n : ℕ) → MakesCode d m → MakesCode d n → m ≡ n
@@ -33,3 +38,18 @@ OneMade = (ds : List ℕ) (o o′ : Lent) (m n : ℕ) → o .was ≡ o′ .was �
 abbrev pub OneRead : Type 0
 OneRead = (fs : List ℕ) (d d′ v v′ : Lent) (m n : ℕ) → Octets fs → d .was ≡ d′ .was → v .was ≡ v′ .was
     → ReadsBytes fs d v (numbered m) → ReadsBytes fs d′ v′ (numbered n) → (m ≡ n) × (d .is ≡ d′ .is) × (v .is ≡ v′ .is)
+
+abbrev pub OneFile : Type 0
+OneFile = (l : ℕ) (bs ns : List ℕ) (o o′ : Lent) (m n : ℕ) → o .was ≡ o′ .was → WritesFile l bs ns o m → WritesFile l bs ns o′ n
+    → (m ≡ n) × (o .is ≡ o′ .is)
+
+abbrev pub NoRefusal : Type 0
+NoRefusal = (l : ℕ) (bs ns : List ℕ) (o : Lent) (n k : ℕ) (p : WritesFile l bs ns o n) → p .answer ≡ gives k → 24 ≤ n
+
+abbrev pub OneLabel : Type 0
+OneLabel = (bs : List ℕ) (o o′ : Lent) (m n : ℕ) → o .was ≡ o′ .was → ReadsLabel bs o (numbered m) → ReadsLabel bs o′ (numbered n)
+    → (m ≡ n) × (o .is ≡ o′ .is)
+
+abbrev pub OneTaken : Type 0
+OneTaken = (bs : List ℕ) (f f′ o o′ : Lent) (m n : ℕ) → f .was ≡ f′ .was → o .was ≡ o′ .was
+    → ReadsFile bs f o (numbered m) → ReadsFile bs f′ o′ (numbered n) → (m ≡ n) × (o .is ≡ o′ .is) × (f .is ≡ f′ .is)

@@ -10,6 +10,12 @@ ghost use Rattle.maker.specs.Answers.{answer};
 ghost use Rattle.maker.specs.Lists.{MakesBytes};
 ghost use Rattle.reader.specs.Lists.{ReadsBytes};
 ghost use Rattle.host.specs.Entries.{returned, MakesCode, Small, answerBytes, noPlace, laidOut, ReadsOut};
+
+mod captures;
+
+pub use captures::lks_capture_head;
+pub use captures::lks_capture_read;
+pub use captures::lks_capture_write;
 use maker::Making;
 use reader::Flips;
 use reader::Reading;

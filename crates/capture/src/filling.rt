@@ -1,36 +1,45 @@
 // Filling a lent output with the parts of a file, and a lent list with its frames.
 ghost use mathlib.Core.Path.{_≡_};
+ghost use mathlib.Core.Bool.{not};
 ghost use mathlib.Core.List.{_++_};
 ghost use Prim.Native.Nat.{_*_, _/_, _≤_};
 ghost use lib.ListN.{length, take};
 ghost use Rattle.paper.specs.Numbers.{mostBytes};
-ghost use Rattle.laws.specs.Lent.{_over_};
+ghost use Rattle.laws.specs.Lent.{lent, _over_};
 ghost use Rattle.radix.specs.Octets.{numbersOf, eight, bytesOf};
 ghost use Rattle.capture.specs.Answers.{filed};
-ghost use Rattle.capture.specs.Parts.{sizeOf, fitting, ending};
+ghost use Rattle.capture.specs.Calls.{Writes};
+ghost use Rattle.capture.specs.Parts.{sizeOf, tooLong, fitting, ending};
 use crate::Filed;
 
 // Frames that a file of 65,536 bytes has room for.
 const ROOM: usize = (paper::MOST_BYTES - crate::TRAILER_BYTES) / 8;
 
-// The length of a file with so many frames and bytes of notes, where it fits an output of `room` bytes.
+// Whether a file with so many frames and bytes of notes keeps the limit and goes into `room` bytes.
+fn goes_in(count: usize, notes: usize, room: usize) -> bool
+    ensures { λ r. ⌜ r ≡ not (tooLong count notes room) ⌝ }
+{
+    if ROOM < count {
+        return false;
+    }
+    if paper::MOST_BYTES - crate::TRAILER_BYTES - count * 8 < notes {
+        return false;
+    }
+    count * 8 + notes + crate::TRAILER_BYTES <= room
+}
+
+// Its length, or the refusal.
 pub(crate) fn fit(count: usize, notes: usize, room: usize) -> Filed
     ensures { λ r. ⌜ filed r ≡ fitting count notes room ⌝ }
 {
-    if ROOM < count {
-        return Filed::Refused(paper::UNFIT);
-    }
-    if paper::MOST_BYTES - crate::TRAILER_BYTES - count * 8 < notes {
-        return Filed::Refused(paper::UNFIT);
-    }
-    let n = count * 8 + notes + crate::TRAILER_BYTES;
-    if room < n {
+    let goes = goes_in(count, notes, room);
+    if !goes {
         return Filed::Refused(paper::UNFIT);
     }
     if crate::MOST_FRAMES < count {
         return Filed::Refused(crate::TOO_MANY_FRAMES);
     }
-    Filed::Length(n)
+    Filed::Length(count * 8 + notes + crate::TRAILER_BYTES)
 }
 
 // A frame in the eight bytes that are its place.
@@ -80,6 +89,21 @@ pub(crate) fn finish(lane: u32, count: usize, notes: &[u8], out: &mut [u8])
         count as u64,
         to as u64,
     );
+}
+
+// The file in an output that it fits, or all as it was where it does not.
+pub(crate) fn fill(fits: Filed, lane: u32, frames: &[u64], notes: &[u8], out: &mut [u8]) -> Filed
+    requires { ⌜ filed fits ≡ fitting (length (now frames)) (length (now notes)) (length (now out)) ⌝ }
+    ensures { λ r. ⌜ Writes lane (now (frames .entry)) (now (notes .entry)) (lent out) (filed r) ⌝ }
+{
+    match fits {
+        Filed::Length(n) => {
+            put_frames(frames, out);
+            finish(lane, frames.len(), notes, out);
+            Filed::Length(n)
+        }
+        Filed::Refused(n) => Filed::Refused(n),
+    }
 }
 
 // The first frames of a file, at the front of a lent list.

@@ -47,14 +47,8 @@ pub enum Labelled {
 pub fn write(lane: u32, frames: &[u64], notes: &[u8], out: &mut [u8]) -> Filed
     ensures { λ r. ⌜ Writes lane (now (frames .entry)) (now (notes .entry)) (out .entry to out .exit) (filed r) ⌝ }
 {
-    match filling::fit(frames.len(), notes.len(), out.len()) {
-        Filed::Length(n) => {
-            filling::put_frames(frames, out);
-            filling::finish(lane, frames.len(), notes, out);
-            Filed::Length(n)
-        }
-        Filed::Refused(n) => Filed::Refused(n),
-    }
+    let fits = filling::fit(frames.len(), notes.len(), out.len());
+    filling::fill(fits, lane, frames, notes, out)
 }
 
 // Lane and count of a capture file.

@@ -4,7 +4,7 @@ ghost use lib.ListN.{length};
 ghost use Rattle.radix.specs.Octets.{numbersOf};
 ghost use Rattle.filing.specs.File.{trailer};
 ghost use Rattle.capture.specs.Answers.{answer};
-ghost use Rattle.capture.specs.Parts.{judged, judgedBy};
+ghost use Rattle.capture.specs.Parts.{pointing, judged, judgedBy};
 use crate::Label;
 use crate::Labelled;
 
@@ -21,17 +21,25 @@ pub(crate) fn put(place: &mut [u8], lane: u32, count: u64, distance: u64)
     octets::store(place, 2, distance);
 }
 
+// Whether the distance is that of the first frame, with room for so many frames; the product is never taken.
+fn points_back(ahead: usize, count: u64, distance: u64) -> bool
+    ensures { λ r. ⌜ r ≡ pointing ahead count distance ⌝ }
+{
+    if distance != ahead as u64 {
+        return false;
+    }
+    count <= distance / 8
+}
+
 // What the numbers of a trailer say that stands behind `ahead` bytes.
 fn judge(ahead: usize, first: u64, count: u64, distance: u64) -> Labelled
     ensures { λ r. ⌜ answer r ≡ judged ahead first count distance ⌝ }
 {
+    let back = points_back(ahead, count, distance);
     if first / 0x1_0000_0000 != TAG {
         return Labelled::Refused(crate::NO_TAG);
     }
-    if distance != ahead as u64 {
-        return Labelled::Refused(crate::DISAGREEING);
-    }
-    if distance / 8 < count {
+    if !back {
         return Labelled::Refused(crate::DISAGREEING);
     }
     if (crate::MOST_FRAMES as u64) < count {

@@ -11,12 +11,12 @@
 -- │ judging       │ what the verdict tells                                         │
 -- └───────────────┴────────────────────────────────────────────────────────────────┘
 use mathlib.Core.Path.{_≡_, refl, sym, ap, _∙_, subst}
-use mathlib.Core.Bool.{Bool, true, false, cond, not, _||_}
+use mathlib.Core.Bool.{Bool, true, false, cond, not, _&&_}
 use mathlib.Core.List.{List}
 use Prim.Native.Nat.{ℕ, zero, suc, _-_, _*_, _/_, _%_, _^_, _<_, _≤_}
 use native.Mathlib.Omega.{arith}
-use borrow.Author.Tests.{ltb-true, ltb-false, eqb-true, eqb-false}
-use lib.Dec.{ltb, eqb}
+use borrow.Author.Tests.{ltb-true, ltb-false, leb-true, leb-false, eqb-true, eqb-false}
+use lib.Dec.{leb, ltb, eqb}
 use lib.ListN.{length}
 use Rattle.paper.specs.Numbers.{mostBytes}
 use Rattle.laws.specs.Bits.{Octets}
@@ -48,7 +48,7 @@ module _ {bs : List ℕ} (s t : Trailed bs) where
 abbrev pub verdictBy : ℕ → ℕ → ℕ → ℕ → ℕ
 verdictBy a x n d =
     cond (not (eqb (x / 2 ^ 32) tagNumber)) noTag
-    (cond (not (eqb d a) || ltb d (n * 8)) disagreeing
+    (cond (not (eqb d a && leb (n * 8) d)) disagreeing
     (cond (ltb mostFrames n) tooManyFrames 0))
 
 pub record Kept (bs : List ℕ) (l n : ℕ) : Type 0 where
@@ -110,23 +110,23 @@ module _ (bs : List ℕ) (o : Octets bs) (size : length bs ≤ mostBytes) (k : 2
           count = many;
         }
 
-  go : (p q r s : Bool) → eqb (x / 2 ^ 32) tagNumber ≡ p → eqb d a ≡ q → ltb d (n * 8) ≡ r → ltb mostFrames n ≡ s
-      → Told bs (x % 2 ^ 32) n (cond (not p) noTag (cond (not q || r) disagreeing (cond s tooManyFrames 0)))
+  go : (p q r s : Bool) → eqb (x / 2 ^ 32) tagNumber ≡ p → eqb d a ≡ q → leb (n * 8) d ≡ r → ltb mostFrames n ≡ s
+      → Told bs (x % 2 ^ 32) n (cond (not p) noTag (cond (not (q && r)) disagreeing (cond s tooManyFrames 0)))
   unfolding x n
   go false q r s e f g h =
       no-tag refl size (λ t. eqb-false (x / 2 ^ 32) tagNumber e (let m = marks-of t .first in let l = t .lane-fits in omega arith))
   go true false r s e f g h = let w = eqb-true (x / 2 ^ 32) tagNumber e in disagree refl size (t w) (λ p. eqb-false d a f (back w (p .back)))
-  go true true true s e f g h =
+  go true true false s e f g h =
       let w = eqb-true (x / 2 ^ 32) tagNumber e in
-      disagree refl size (t w) (λ p. omega (arith, room w p, ltb-true d (n * 8) g))
-  go true true false true e f g h =
+      disagree refl size (t w) (λ p. omega (arith, room w p, leb-false (n * 8) d g))
+  go true true true true e f g h =
       let w = eqb-true (x / 2 ^ 32) tagNumber e in
-      too-many refl size (t w) (points w (eqb-true d a f) (ltb-false d (n * 8) g))
+      too-many refl size (t w) (points w (eqb-true d a f) (leb-true (n * 8) d g))
       (subst (λ (i : ℕ). mostFrames < i) (marks-of (t w) .count) (ltb-true mostFrames n h))
-  go true true false false e f g h =
+  go true true true false e f g h =
       let w = eqb-true (x / 2 ^ 32) tagNumber e in
-      holds w (points w (eqb-true d a f) (ltb-false d (n * 8) g)) (ltb-false mostFrames n h)
+      holds w (points w (eqb-true d a f) (leb-true (n * 8) d g)) (ltb-false mostFrames n h)
 
   pub judging : Told bs (mark bs 0 % 2 ^ 32) (mark bs 1) (verdictBy (length bs - 24) (mark bs 0) (mark bs 1) (mark bs 2))
   unfolding x n d a
-  judging = go (eqb (x / 2 ^ 32) tagNumber) (eqb d a) (ltb d (n * 8)) (ltb mostFrames n) refl refl refl refl
+  judging = go (eqb (x / 2 ^ 32) tagNumber) (eqb d a) (leb (n * 8) d) (ltb mostFrames n) refl refl refl refl

@@ -2,10 +2,10 @@
 ghost use mathlib.Core.Path.{_≡_};
 ghost use lib.Dec.{leb};
 ghost use lib.ListN.{length};
-ghost use Rattle.paper.specs.Answer.{numbered};
+ghost use Rattle.paper.specs.Answer.{numberOf, numbered};
 ghost use Rattle.laws.specs.Lent.{_to_, _over_};
 ghost use Rattle.filing.specs.File.{mostFrames};
-ghost use Rattle.capture.specs.Answers.{filed};
+ghost use Rattle.capture.specs.Answers.{filed, answer};
 ghost use Rattle.capture.specs.Calls.{Writes, FileCall};
 ghost use Rattle.host.specs.Entries.{returned};
 ghost use Rattle.host.specs.Captures.{Returned};
@@ -69,14 +69,20 @@ pub extern "C" fn bench_capture_write(
     length_of(capture::write(lane, frames, notes, file))
 }
 
+fn number_of(r: Labelled) -> u8
+    ensures { λ n. ⌜ n ≡ numberOf (answer r) ⌝ }
+{
+    match r {
+        Labelled::Found(_) => 0,
+        Labelled::Refused(n) => n,
+    }
+}
+
 #[no_mangle]
 pub extern "C" fn bench_capture_read(file: &[u8], frames: &mut [u64]) -> u8
     ensures { λ n. ⌜ FileCall (leb mostFrames (length (now (frames .entry))))
         (λ c u. now (frames .exit) ≡ c .frames over now (frames .entry)) (now (frames .exit) ≡ now (frames .entry))
         (now (file .entry)) (numbered n) ⌝ }
 {
-    match capture::read(file, frames) {
-        Labelled::Found(_) => 0,
-        Labelled::Refused(n) => n,
-    }
+    number_of(capture::read(file, frames))
 }

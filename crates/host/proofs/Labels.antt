@@ -1,10 +1,13 @@
 -- The answer of the entries on capture files: twelve bytes, and the number of a refusal.
 -- ┌───────────────┬────────────────────────────────────────────────────────────────┐
 -- │ two-puts      │ lane and count, one behind the other                           │
--- │ as-number     │ a refusal of a file is never 0, so that its number says it     │
+-- │ numbered-file │ a refusal of a file is never 0, so that its number says it:    │
+-- │               │ what a call owes, said of the number that C gets               │
+-- │ label-told,   │ what the entries owe, from what `head` and `read_bytes` do     │
+-- │ file-told     │                                                                │
 -- └───────────────┴────────────────────────────────────────────────────────────────┘
 use mathlib.Core.Path.{_≡_, refl, sym, ap, ap₂, _∙_, subst}
-use mathlib.Core.Bool.{Bool, true, false, cond}
+use mathlib.Core.Bool.{Bool, true, false, cond, _&&_}
 use mathlib.Core.List.{List, _++_, append-assoc}
 use Prim.Native.Nat.{ℕ, _+_, _^_, _<_, _≤_}
 use native.Mathlib.Omega.{arith}
@@ -12,16 +15,18 @@ use borrow.Author.Tests.{lt-ltb, le-leb}
 use lib.ListN.{length, drop, length-append, length-drop}
 use lib.Seq.{take-at, drop-at, drop-drop}
 use Rattle.paper.specs.Numbers.{outside, unfit, unless}
-use Rattle.paper.specs.Answer.{Answer, refused, owed, numbered}
+use Rattle.paper.specs.Answer.{Answer, gives, refused, owed, numberOf, numbered}
 use Rattle.laws.specs.Lent.{Left, _over_}
 use Rattle.laws.proofs.Writing.{over-fits}
-use Rattle.radix.specs.Octets.{inBytes, eight}
+use Rattle.radix.specs.Octets.{inBytes, eight, bytesOf}
 use Rattle.radix.proofs.Digits.{length-in}
 use Rattle.radix.proofs.Stored.{length-eight}
 use Rattle.octets.specs.Calls.{there, inside, placed, Puts}
 use Rattle.filing.specs.Refused.{Refuses, over-size, no-tag, disagree, too-many}
-use Rattle.capture.specs.Calls.{RefusedFor}
-use Rattle.host.specs.Captures.{labelBytes}
+use Rattle.filing.specs.File.{Capture}
+use Rattle.capture.specs.Calls.{labelOf, RefusedFor, FileCall, Heads, fitsBytes, ReadsBytes}
+use Rattle.capture.specs.declared.Label.{Label}
+use Rattle.host.specs.Captures.{labelBytes, labelled, labelFits, Labels, ReadsLabel, ReadsFile}
 
 put-done : (o₀ o : List ℕ) (at n x : ℕ) (a : Answer Unit) → Puts o₀ at n x a o → there at n (length o₀) ≡ true → inside n x ≡ true
     → o ≡ placed o₀ at n x
@@ -57,6 +62,37 @@ file-number bs n (no-tag e l u) = subst (λ (m : ℕ). numbered m ≡ refused m)
 file-number bs n (disagree e l t u) = subst (λ (m : ℕ). numbered m ≡ refused m) (sym e) refl
 file-number bs n (too-many e l t p u) = subst (λ (m : ℕ). numbered m ≡ refused m) (sym e) refl
 
-pub as-number : (f : Bool) (bs : List ℕ) {m n : ℕ} → m ≡ n → RefusedFor f bs n → numbered m ≡ refused n
+as-number : (f : Bool) (bs : List ℕ) {m n : ℕ} → m ≡ n → RefusedFor f bs n → numbered m ≡ refused n
 as-number true bs {m} {n} e r = ap numbered e ∙ file-number bs n r
 as-number false bs {m} {n} e r = ap numbered e ∙ subst (λ (k : ℕ). numbered k ≡ refused k) (sym r) refl
+
+pub numbered-file : (f : Bool) (W : Capture → Label → Type 0) (X : Capture → Unit → Type 0) (K L : Type 0) (bs : List ℕ) (a : Answer Label) (n : ℕ)
+    → n ≡ numberOf a → ((c : Capture) (h : Label) → a ≡ gives h → W c h → X c tt) → ((k : ℕ) → a ≡ refused k → K → L)
+    → FileCall f W K bs a → FileCall f X L bs (numbered n)
+numbered-file f W X K L bs (gives h) n e g r (p, (c, k, w)) =
+    subst (λ (m : ℕ). FileCall f X L bs (numbered m)) (sym e) (p, (c, k, g c h refl w))
+numbered-file f W X K L bs (refused k) n e g r (p, q) = subst (FileCall f X L bs) (sym (as-number f bs e p)) (p, r k refl q)
+
+-- the buffer after an answer that gives a label shows that of its capture
+shows : (o p : List ℕ) (a : Answer Label) (c : Capture) (h : Label) → p ≡ labelled a o → a ≡ gives h → h ≡ labelOf c
+    → Labels (record { was = o; is = p }) c
+shows o p a c h l e w = l ∙ ap (λ (x : Answer Label). labelled x o) (e ∙ ap gives w)
+
+as-was : (o p : List ℕ) (a : Answer Label) (k : ℕ) → p ≡ labelled a o → a ≡ refused k → p ≡ o
+as-was o p a k l e = l ∙ ap (λ (x : Answer Label). labelled x o) e
+
+module _ (bs : List ℕ) where
+  pub label-told : (o p : List ℕ) (a : Answer Label) (n : ℕ) → labelFits o ≡ true → n ≡ numberOf a → p ≡ labelled a o → Heads bs a
+      → ReadsLabel bs (record { was = o; is = p }) (numbered n)
+  label-told o p a n f e l q =
+      numbered-file (labelFits o) (λ c h. h ≡ labelOf c) (λ c u. Labels (record { was = o; is = p }) c) Unit (p ≡ o) bs a n e
+      (λ c h i w. shows o p a c h l i w) (λ k i u. as-was o p a k l i)
+      (subst (λ (b : Bool). FileCall b (λ c h. h ≡ labelOf c) Unit bs a) (sym f) q)
+
+  pub file-told : (fs gs o p : List ℕ) (a : Answer Label) (n : ℕ) → labelFits o ≡ true → n ≡ numberOf a → p ≡ labelled a o
+      → ReadsBytes bs (record { was = fs; is = gs }) a → ReadsFile bs (record { was = fs; is = gs }) (record { was = o; is = p }) (numbered n)
+  file-told fs gs o p a n f e l q =
+      numbered-file (labelFits o && fitsBytes fs) (λ c h. (h ≡ labelOf c) × (gs ≡ bytesOf (c .frames) over fs))
+      (λ c u. Labels (record { was = o; is = p }) c × (gs ≡ bytesOf (c .frames) over fs)) (gs ≡ fs) ((p ≡ o) × (gs ≡ fs)) bs a n e
+      (λ c h i w. (shows o p a c h l i (w .0), w .1)) (λ k i u. (as-was o p a k l i, u))
+      (subst (λ (b : Bool). FileCall (b && fitsBytes fs) (λ c h. (h ≡ labelOf c) × (gs ≡ bytesOf (c .frames) over fs)) (gs ≡ fs) bs a) (sym f) q)

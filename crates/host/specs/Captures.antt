@@ -5,6 +5,7 @@
 -- │ WritesFile     │ `lks_capture_write`: that of what `write_bytes` owes           │
 -- │ labelBytes l n │ the answer's twelve bytes: the lane in four, the count in      │
 -- │                │ eight, highest first                                           │
+-- │ labelled a o   │ the answer buffer o after an answer: as it was where refused   │
 -- │ labelFits o    │ the answer buffer o has room for them                          │
 -- │ Labels o c     │ they stand at the front of o, past them as it was              │
 -- │ ReadsLabel     │ `lks_capture_head`: 12 for a buffer under twelve bytes, else   │
@@ -17,11 +18,12 @@ use mathlib.Core.List.{List, _++_}
 use Prim.Native.Nat.{ℕ}
 use lib.Dec.{leb}
 use lib.ListN.{length}
-use Rattle.paper.specs.Answer.{Answer}
+use Rattle.paper.specs.Answer.{Answer, gives, refused}
 use Rattle.laws.specs.Lent.{Lent, _over_}
 use Rattle.radix.specs.Octets.{inBytes, eight, bytesOf}
 use Rattle.filing.specs.File.{Capture}
 use Rattle.capture.specs.Calls.{WritesBytes, FileCall, fitsBytes}
+use Rattle.capture.specs.declared.Label.{Label}
 use Rattle.host.specs.Entries.{returned}
 
 pub record Returned (Owed : Answer ℕ → Type 0) (n : ℕ) : Type 0 where
@@ -34,6 +36,10 @@ WritesFile l bs ns o n = Returned (WritesBytes l bs ns o) n
 
 abbrev pub labelBytes : ℕ → ℕ → List ℕ
 labelBytes l n = inBytes 4 l ++ eight n
+
+abbrev pub labelled : Answer Label → List ℕ → List ℕ
+labelled (gives h) o = labelBytes (h .lane) (h .count) over o
+labelled (refused n) o = o
 
 abbrev pub labelFits : List ℕ → Bool
 labelFits o = leb 12 (length o)

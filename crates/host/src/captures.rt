@@ -2,11 +2,12 @@
 ghost use mathlib.Core.Path.{_≡_};
 ghost use Prim.Native.Nat.{_≤_};
 ghost use lib.ListN.{length};
-ghost use Rattle.paper.specs.Answer.{numbered};
+ghost use Rattle.paper.specs.Answer.{numberOf, numbered};
 ghost use Rattle.laws.specs.Lent.{_to_, _over_};
+ghost use Rattle.capture.specs.Answers as labels;
 ghost use Rattle.capture.specs.Answers.{filed};
 ghost use Rattle.host.specs.Entries.{returned};
-ghost use Rattle.host.specs.Captures.{WritesFile, labelBytes, ReadsLabel, ReadsFile};
+ghost use Rattle.host.specs.Captures.{WritesFile, labelBytes, labelled, ReadsLabel, ReadsFile};
 use crate::wide;
 use capture::Filed;
 use capture::Label;
@@ -36,6 +37,20 @@ fn lay_label(answer: &mut [u8], h: Label)
     octets::put(answer, 4, 8, h.count as u64);
 }
 
+// What C gets of an answer: 0 and the label in the answer's bytes, or the refusal.
+fn told(r: Labelled, answer: &mut [u8]) -> u64
+    requires { ⌜ 12 ≤ length (now answer) ⌝ }
+    ensures { λ n. ⌜ (n ≡ numberOf (labels.answer r)) × (now (answer .exit) ≡ labelled (labels.answer r) (now (answer .entry))) ⌝ }
+{
+    match r {
+        Labelled::Found(h) => {
+            lay_label(answer, h);
+            0
+        }
+        Labelled::Refused(n) => wide(n),
+    }
+}
+
 #[no_mangle]
 pub extern "C" fn lks_capture_write(lane: u32, frames: &[u8], notes: &[u8], file: &mut [u8]) -> u64
     ensures { λ n. ⌜ WritesFile lane (now (frames .entry)) (now (notes .entry)) (file .entry to file .exit) n ⌝ }
@@ -50,13 +65,7 @@ pub extern "C" fn lks_capture_head(file: &[u8], answer: &mut [u8]) -> u64
     if answer.len() < LABEL_BYTES {
         return UNFIT;
     }
-    match capture::head(file) {
-        Labelled::Found(h) => {
-            lay_label(answer, h);
-            0
-        }
-        Labelled::Refused(n) => wide(n),
-    }
+    told(capture::head(file), answer)
 }
 
 #[no_mangle]
@@ -66,11 +75,5 @@ pub extern "C" fn lks_capture_read(file: &[u8], frames: &mut [u8], answer: &mut 
     if answer.len() < LABEL_BYTES {
         return UNFIT;
     }
-    match capture::read_bytes(file, frames) {
-        Labelled::Found(h) => {
-            lay_label(answer, h);
-            0
-        }
-        Labelled::Refused(n) => wide(n),
-    }
+    told(capture::read_bytes(file, frames), answer)
 }

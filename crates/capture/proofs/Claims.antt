@@ -21,7 +21,7 @@ use Rattle.laws.specs.Lent.{Lent, Left, _over_}
 use Rattle.laws.proofs.Truth.{neither}
 use Rattle.laws.proofs.Writing.{over-fits}
 use Rattle.radix.specs.Octets.{numbersOf, ragged}
-use Rattle.filing.specs.File.{mostFrames, Capture, kept, fileOf, Writable, Holds}
+use Rattle.filing.specs.File.{mostFrames, Capture, kept, fileOf, Holds}
 use Rattle.filing.specs.Refused.{tooManyFrames}
 use Rattle.filing.proofs.Captures.{file-size}
 use Rattle.filing.proofs.Claims.{one-holds, not-both}

@@ -4,7 +4,7 @@
 -- │ one-call     │ of any two calls on one file                                     │
 -- │ one-filed …  │ the claims of specs/Claims.antt by these names                   │
 -- └──────────────┴──────────────────────────────────────────────────────────────────┘
-use mathlib.Core.Path.{_≡_, refl, sym, ap, ap₂, _∙_, subst}
+use mathlib.Core.Path.{_≡_, refl, sym, ap, _∙_, subst}
 use mathlib.Core.Bool.{Bool, true, false, cond}
 use mathlib.Core.List.{List}
 use mathlib.Core.Logic.{_⊎_, inl, inr}
@@ -16,13 +16,12 @@ use Rattle.paper.specs.Numbers.{unfit}
 use Rattle.paper.specs.Answer.{Answer, gives, refused, owed}
 use Rattle.paper.proofs.Answer.{either, known-by}
 use Rattle.laws.specs.Lent.{Lent, Left, _over_}
-use Rattle.laws.proofs.Writing.{one-left}
 use Rattle.radix.specs.Octets.{numbersOf, bytesOf, ragged}
 use Rattle.filing.specs.File.{mostFrames, Capture, kept, fileOf, Holds}
 use Rattle.filing.specs.Refused.{Refuses}
 use Rattle.filing.proofs.Claims.{held-or-refused, one-refusal, one-holds, not-both}
 use Rattle.capture.specs.Answers.{filed, answer}
-use Rattle.capture.specs.Calls.{writeRefusal, Files, labelOf, RefusedFor, FileCall, Heads, fitsBytes, HandsNotes}
+use Rattle.capture.specs.Calls.{writeRefusal, Files, labelOf, RefusedFor, FileCall, Heads, fitsBytes}
 use Rattle.capture.specs.Claims.{OneFiled, OneFiledBytes, OneHead, OneRead, OneReadBytes, OneNotes, SomeHead}
 use Rattle.capture.specs.declared.Filed.{Filed}
 use Rattle.capture.specs.declared.Filed.the-variants.{Length, Refused as Unfiled}

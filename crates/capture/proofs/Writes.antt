@@ -20,8 +20,8 @@ use lib.Dec.{ltb}
 use lib.ListN.{length, take, length-append}
 use Rattle.paper.specs.Numbers.{unfit, mostBytes}
 use Rattle.paper.specs.Answer.{Answer, gives, refused, owed}
-use Rattle.paper.proofs.Answer.{given, never-both}
-use Rattle.laws.specs.Lent.{Lent, _over_}
+use Rattle.paper.proofs.Answer.{given}
+use Rattle.laws.specs.Lent.{_over_}
 use Rattle.laws.proofs.Truth.{neither}
 use Rattle.laws.specs.Bits.{Octets}
 use Rattle.radix.specs.Octets.{numbersOf, bytesOf, ragged}

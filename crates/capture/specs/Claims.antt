@@ -22,10 +22,9 @@ use denote.Ref.{RefT, now, ptr}
 use Rattle.paper.specs.Answer.{Answer, gives}
 use Rattle.laws.specs.Bits.{Octets}
 use Rattle.laws.specs.Lent.{Lent, _over_}
-use Rattle.radix.specs.Octets.{bytesOf}
 use Rattle.filing.specs.File.{mostFrames, Capture, Writable}
 use Rattle.capture.specs.Answers.{filed, answer}
-use Rattle.capture.specs.Calls.{Writes, WritesBytes, labelOf, Heads, Reads, fitsBytes, ReadsBytes, HandsNotes}
+use Rattle.capture.specs.Calls.{Writes, WritesBytes, labelOf, Heads, Reads, ReadsBytes, HandsNotes}
 use Rattle.capture.specs.declared.Filed.{Filed}
 use Rattle.capture.specs.declared.Label.{Label}
 use Rattle.capture.specs.declared.Labelled.{Labelled}

@@ -1,5 +1,4 @@
 // The same with frames as bytes: a frame is eight bytes, highest first.
-ghost use mathlib.Core.Path.{_≡_};
 ghost use Rattle.laws.specs.Lent.{_to_};
 ghost use Rattle.capture.specs.Answers.{filed, answer};
 ghost use Rattle.capture.specs.Calls.{WritesBytes, ReadsBytes};

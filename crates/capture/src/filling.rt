@@ -1,7 +1,6 @@
 // Filling a lent output with the parts of a file, and a lent list with its frames.
 ghost use mathlib.Core.Path.{_≡_};
 ghost use mathlib.Core.Bool.{not};
-ghost use mathlib.Core.List.{_++_};
 ghost use Prim.Native.Nat.{_*_, _/_, _≤_};
 ghost use lib.ListN.{length, take};
 ghost use Rattle.paper.specs.Numbers.{mostBytes};
@@ -9,7 +8,7 @@ ghost use Rattle.laws.specs.Lent.{lent, _over_};
 ghost use Rattle.radix.specs.Octets.{numbersOf, eight, bytesOf};
 ghost use Rattle.capture.specs.Answers.{filed};
 ghost use Rattle.capture.specs.Calls.{Writes};
-ghost use Rattle.capture.specs.Parts.{sizeOf, tooLong, fitting, ending};
+ghost use Rattle.capture.specs.Parts.{sizeOf, tooLong, fitting, finished};
 use crate::Filed;
 
 // Frames that a file of 65,536 bytes has room for.
@@ -78,7 +77,7 @@ pub(crate) fn copy(from: &[u8], to: &mut [u8])
 // Notes and trailer behind so many frames.
 pub(crate) fn finish(lane: u32, count: usize, notes: &[u8], out: &mut [u8])
     requires { ⌜ (sizeOf count (length (now notes)) ≤ length (now out)) × (sizeOf count (length (now notes)) ≤ mostBytes) ⌝ }
-    ensures { λ _. ⌜ now (out .exit) ≡ (take (count * 8) (now (out .entry)) ++ ending lane count (now (notes .entry))) over now (out .entry) ⌝ }
+    ensures { λ _. ⌜ now (out .exit) ≡ finished (now (out .entry)) lane count (now (notes .entry)) ⌝ }
 {
     let from = count * 8;
     let to = from + notes.len();

@@ -1,5 +1,4 @@
 // Capture files: written from lane, frames and notes, read back, or refused.
-ghost use mathlib.Core.Path.{_≡_};
 ghost use Rattle.laws.specs.Lent.{_to_};
 ghost use Rattle.capture.specs.Answers.{filed, answer};
 ghost use Rattle.capture.specs.Calls.{Writes, Heads, Reads, HandsNotes};

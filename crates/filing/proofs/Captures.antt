@@ -12,7 +12,7 @@
 -- └───────────────┴────────────────────────────────────────────────────────────────┘
 use mathlib.Core.Path.{_≡_, refl, sym, ap, ap₂, _∙_, subst}
 use mathlib.Core.List.{List, [], _∷_, _++_, append-assoc}
-use Prim.Native.Nat.{ℕ, zero, suc, _+_, _-_, _*_, _/_, _%_, _^_, _<_, _≤_}
+use Prim.Native.Nat.{ℕ, zero, suc, _+_, _*_, _/_, _^_, _<_, _≤_}
 use native.Mathlib.Nat.{zero-lt-suc}
 use native.Mathlib.Omega.{arith}
 use lib.ListN.{length, getD, take, drop, take-append-drop, length-append}
@@ -20,7 +20,7 @@ use lib.Seq.{take-at, drop-at, length-take-le}
 use Rattle.laws.specs.Bits.{Octets}
 use Rattle.radix.specs.Octets.{numbersOf, bytesOf}
 use Rattle.radix.proofs.Joined.{numbers-len, numbers-join, numbers-lt}
-use Rattle.radix.proofs.Stored.{length-bytes, numbers-back, bytes-are}
+use Rattle.radix.proofs.Stored.{length-bytes, numbers-back}
 use Rattle.filing.specs.File.{trailer, Capture, contents, fileOf, Writable}
 use Rattle.filing.specs.Refused.{Trailed, PointsBack}
 use Rattle.filing.proofs.Trailer.{numbers-bytes, octets-drop, trailer-size}

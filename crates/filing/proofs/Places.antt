@@ -1,5 +1,5 @@
 -- The refusals by places, and an example: claims of specs/Claims.antt, by the same names in lower case.
-use mathlib.Core.Path.{_≡_, refl, sym, ap, ap₂, _∙_, subst}
+use mathlib.Core.Path.{_≡_, refl, sym, ap, ap₂, _∙_}
 use mathlib.Core.Bool.{Bool, true, false}
 use mathlib.Core.List.{List, [], _∷_}
 use mathlib.Core.Logic.{_⊎_, inl, inr}
@@ -110,7 +110,10 @@ module _ (bs : List ℕ) (o : Octets bs) (k : 24 ≤ length bs) (t : Trailed bs)
 
   on : Off → PointsBack t → ⊥
   unfolding Off d n
-  on (inl u) p = let m = marks-of t in u (sym (distance-at bs o k) ∙ m .distance ∙ p .back ∙ (let q : length (t .ahead) ≡ length bs - 24 = omega (arith, m .size) in q))
+  on (inl u) p =
+      let m = marks-of t in
+      let q : length (t .ahead) ≡ length bs - 24 = omega (arith, m .size) in
+      u (sym (distance-at bs o k) ∙ m .distance ∙ p .back ∙ q)
   on (inr l) p = let m = marks-of t in omega (arith, p .room, m .distance, m .count, distance-at bs o k, count-at bs o k)
 
 pub only-22 : Only22

@@ -1,11 +1,10 @@
 -- `capture::trailer::put` meets its contract: a trailer is the bytes of three numbers.
 use mathlib.Core.Path.{_≡_, refl, sym, ap, _∙_}
 use mathlib.Core.List.{List, [], _∷_}
-use Prim.Native.Nat.{ℕ, _/_, _^_, _<_}
+use Prim.Native.Nat.{ℕ, _^_, _<_}
 use native.Mathlib.Omega.{arith}
 use borrow.Author.Needs.{needs}
 use lib.ListN.{length}
-use Rattle.laws.specs.Lent.{_over_}
 use Rattle.laws.proofs.Writing.{over-none}
 use Rattle.radix.specs.Octets.{bytesOf, stored}
 use Rattle.radix.proofs.Writing.{bytes-more}

@@ -1,5 +1,4 @@
 -- `host::captures::lay_label` meets its contract, by `two-puts`.
-use native.Mathlib.Omega.{arith}
 use borrow.Author.Needs.{needs}
 use Rattle.host.proofs.Labels.{two-puts}
 use Rattle.host.proofs.captures.lay_label.Statement.{statement}

@@ -1,7 +1,5 @@
 -- `host::captures::told` meets its contract, by the case that the match found.
-use mathlib.Core.Path.{_≡_, sym, ap, _∙_}
-use mathlib.Core.List.{List}
-use Prim.Native.Nat.{ℕ}
+use mathlib.Core.Path.{sym, ap, _∙_}
 use borrow.Author.Needs.{needs}
 use Rattle.paper.specs.Answer.{numberOf}
 use Rattle.capture.specs.Answers.{answer}

@@ -16,17 +16,17 @@ use lib.Seq.{take-at}
 use denote.Ref.{RefT, now}
 use Rattle.paper.specs.Numbers.{unfit, mostBytes}
 use Rattle.paper.specs.Answer.{Answer, gives, refused, owed}
-use Rattle.paper.proofs.Answer.{given}
+use Rattle.paper.proofs.Answer.{given, never-both}
 use Rattle.laws.specs.Lent.{Lent, Left, _over_}
 use Rattle.laws.proofs.Truth.{neither}
 use Rattle.laws.proofs.Writing.{over-fits}
-use Rattle.radix.specs.Octets.{numbersOf, ragged}
+use Rattle.radix.specs.Octets.{numbersOf, bytesOf, ragged}
 use Rattle.filing.specs.File.{mostFrames, Capture, kept, fileOf, Holds}
 use Rattle.filing.specs.Refused.{tooManyFrames}
 use Rattle.filing.proofs.Captures.{file-size}
 use Rattle.filing.proofs.Claims.{one-holds, not-both}
-use Rattle.capture.specs.Calls.{writeRefusal, Files, labelOf, RefusedFor, Reads, HandsNotes}
-use Rattle.capture.specs.Claims.{ReadsTo, WrittenIsRead, ReadIsWritten, NeverARefusal}
+use Rattle.capture.specs.Calls.{writeRefusal, Files, labelOf, RefusedFor, FileCall, fitsBytes, HandsNotes}
+use Rattle.capture.specs.Claims.{ReadsTo, WrittenIsRead, BytesAreRead, ReadIsWritten, NeverARefusal}
 use Rattle.capture.specs.declared.Label.{Label}
 use Rattle.capture.proofs.OneAnswer.{one-call}
 
@@ -35,21 +35,24 @@ module _ {bs : List ℕ} {c : Capture} (h : Holds bs c) where
   notes-of f r e (inl (d, i, (x, y))) = x ∙ ap (λ (k : Capture). k .notes) (one-holds bs d c (subst (λ (b : List ℕ). Holds b d) e i) h)
   notes-of f r e (inr (n, k, p)) = absurd (not-both (now f) n k c (subst (λ (b : List ℕ). Holds b c) (sym e) h))
 
+  -- the calls that leave what shows says of the frames
+  list : (shows : List ℕ → List ℕ) (f : Bool) (o : Lent) (a : Answer Label) → f ≡ true
+      → FileCall f (λ d x. (x ≡ labelOf d) × (o .is ≡ shows (d .frames) over o .was)) (o .is ≡ o .was) bs a
+      → (a ≡ gives (labelOf c)) × (o .is ≡ shows (c .frames) over o .was)
+  list shows f o (gives x) e (g, (d, i, (u, v))) =
+      let q = one-holds bs d c i h in (ap gives (u ∙ ap labelOf q), v ∙ ap (λ (k : Capture). shows (k .frames) over o .was) q)
+  list shows f o (refused n) e (r, k) = absurd (not-both bs n (subst (λ (b : Bool). RefusedFor b bs n) e r) c h)
+
   pub held-reads-to : ReadsTo bs c
   held-reads-to =
       record {
         label = λ a p.
             one-call {E = Unit {0}} bs true true (λ k x. x ≡ labelOf k) (λ k x. x ≡ labelOf k) Unit Unit refl (λ k x y u v. (u ∙ sym v, tt))
             (λ u v. tt) a (gives (labelOf c)) p (refl, (c, h, refl)) .0;
-        frames = λ o a k p. list o a (le-leb mostFrames (length (o .was)) k) p;
+        frames = λ o a k p. list (λ fs. fs) (leb mostFrames (length (o .was))) o a (le-leb mostFrames (length (o .was)) k) p;
+        bytes = λ o a k p. list bytesOf (fitsBytes (o .was)) o a k p;
         notes = notes-of;
       }
-    where
-      list : (o : Lent) (a : Answer Label) → leb mostFrames (length (o .was)) ≡ true → Reads bs o a
-          → (a ≡ gives (labelOf c)) × (o .is ≡ c .frames over o .was)
-      list o (gives x) e (f, (d, i, (u, v))) =
-          let q = one-holds bs d c i h in (ap gives (u ∙ ap labelOf q), v ∙ ap (λ (k : Capture). k .frames over o .was) q)
-      list o (refused n) e (r, k) = absurd (not-both bs n (subst (λ (b : Bool). RefusedFor b bs n) e r) c h)
 
 -- the tests that a file passed which is written
 module _ (c : Capture) (o : List ℕ) where
@@ -90,6 +93,14 @@ written-is-read c o n w p =
     ap₂ take (sym (g .1)) (p .left ∙ over-fits (fileOf c) (o .was) (t .room))
     ∙ take-at (fileOf c) (drop (length (fileOf c)) (o .was)) (length (fileOf c)) refl in
     held-reads-to (record { file = e; writable = w; few = t .few; size = subst (λ (l : List ℕ). length l ≤ mostBytes) (sym e) (t .most) })
+
+pub bytes-are-read : BytesAreRead
+bytes-are-read l bs ns o n w p = of (ragged bs) p
+  where
+    of : (b : Bool) → Files (cond b unfit (writeRefusal (kept l (numbersOf bs) ns) (o .was))) (kept l (numbersOf bs) ns) o (gives n)
+        → ReadsTo (take n (o .is)) (kept l (numbersOf bs) ns)
+    of false q = written-is-read (kept l (numbersOf bs) ns) o n w q
+    of true q = absurd (never-both n unfit (q .answer))
 
 -- the first of a list that stands at the front of another
 front : (fs o : List ℕ) → length fs ≤ length o → take (length fs) (fs over o) ≡ fs

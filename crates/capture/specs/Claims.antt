@@ -7,14 +7,16 @@
 -- │ OneReadBytes   │ nor that of `read_bytes`                                       │
 -- │ OneNotes       │ no second part of memory, with its bytes, that of `notes`      │
 -- │ SomeHead       │ any bytes have an answer of `head`                             │
--- │ ReadsTo bs c   │ whoever reads bs gets the capture c: lane and count, frames,   │
--- │                │ notes                                                          │
+-- │ ReadsTo bs c   │ whoever reads bs gets the capture c: lane and count, frames as │
+-- │                │ numbers and as bytes, notes                                    │
 -- │ WrittenIsRead  │ what was written is read back                                  │
+-- │ BytesAreRead   │ also of frames that are bytes                                  │
 -- │ ReadIsWritten  │ whatever is read, writing it again gives the file, byte for    │
 -- │                │ byte                                                           │
 -- │ NeverARefusal  │ a length that is answered is at least 24                       │
 -- └────────────────┴────────────────────────────────────────────────────────────────┘
 use mathlib.Core.Path.{_≡_}
+use mathlib.Core.Bool.{true}
 use mathlib.Core.List.{List}
 use Prim.Native.Nat.{ℕ, _≤_}
 use lib.ListN.{length, take}
@@ -22,9 +24,10 @@ use denote.Ref.{RefT, now, ptr}
 use Rattle.paper.specs.Answer.{Answer, gives}
 use Rattle.laws.specs.Bits.{Octets}
 use Rattle.laws.specs.Lent.{Lent, _over_}
-use Rattle.filing.specs.File.{mostFrames, Capture, Writable}
+use Rattle.radix.specs.Octets.{numbersOf, bytesOf}
+use Rattle.filing.specs.File.{mostFrames, Capture, kept, Writable}
 use Rattle.capture.specs.Answers.{filed, answer}
-use Rattle.capture.specs.Calls.{Writes, WritesBytes, labelOf, Heads, Reads, ReadsBytes, HandsNotes}
+use Rattle.capture.specs.Calls.{Writes, WritesBytes, labelOf, Heads, Reads, fitsBytes, ReadsBytes, HandsNotes}
 use Rattle.capture.specs.declared.Filed.{Filed}
 use Rattle.capture.specs.declared.Label.{Label}
 use Rattle.capture.specs.declared.Labelled.{Labelled}
@@ -62,11 +65,18 @@ pub record ReadsTo (bs : List ℕ) (c : Capture) : Type 0 where
   pub label : (a : Answer Label) → Heads bs a → a ≡ gives (labelOf c)
   pub frames : (o : Lent) (a : Answer Label) → mostFrames ≤ length (o .was) → Reads bs o a
       → (a ≡ gives (labelOf c)) × (o .is ≡ c .frames over o .was)
+  pub bytes : (o : Lent) (a : Answer Label) → fitsBytes (o .was) ≡ true → ReadsBytes bs o a
+      → (a ≡ gives (labelOf c)) × (o .is ≡ bytesOf (c .frames) over o .was)
   pub notes : (f r : RefT (List ℕ)) → now f ≡ bs → HandsNotes f r → now r ≡ c .notes
 
 abbrev pub WrittenIsRead : Type 0
 WrittenIsRead =
     (c : Capture) (o : Lent) (n : ℕ) → Writable c → Writes (c .lane) (c .frames) (c .notes) o (gives n) → ReadsTo (take n (o .is)) c
+
+abbrev pub BytesAreRead : Type 0
+BytesAreRead =
+    (l : ℕ) (bs ns : List ℕ) (o : Lent) (n : ℕ) → Writable (kept l (numbersOf bs) ns) → WritesBytes l bs ns o (gives n)
+    → ReadsTo (take n (o .is)) (kept l (numbersOf bs) ns)
 
 abbrev pub ReadIsWritten : Type 0
 ReadIsWritten =

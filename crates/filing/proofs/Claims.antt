@@ -20,7 +20,7 @@ use Rattle.radix.specs.Octets.{numbersOf, bytesOf}
 use Rattle.radix.proofs.Stored.{length-bytes, numbers-back}
 use Rattle.filing.specs.File.{mostFrames, Capture, contents, fileOf, Writable, Holds}
 use Rattle.filing.specs.Refused.{noTag, disagreeing, tooManyFrames, Refuses, over-size, no-tag, disagree, too-many}
-use Rattle.filing.specs.Claims.{OneCapture, HeldOrRefused, OneRefusal, OnlyRefused, NothingMakes, OverLimits}
+use Rattle.filing.specs.Claims.{OneCapture, SaidByOne, HeldOrRefused, OneRefusal, OnlyRefused, NothingMakes, OverLimits}
 use Rattle.filing.proofs.Trailer.{mark, marks-of}
 use Rattle.filing.proofs.Captures.{file-trailed, file-points, makes}
 use Rattle.filing.proofs.Judging.{same-ahead, same-lane, same-count, same-points, verdictBy, Told, judging}
@@ -46,6 +46,9 @@ one-capture c d v w e =
 
 pub one-holds : (bs : List ℕ) (c d : Capture) → Holds bs c → Holds bs d → c ≡ d
 one-holds bs c d p q = one-capture c d (p .writable) (q .writable) (sym (p .file) ∙ q .file)
+
+pub said-by-one : SaidByOne
+said-by-one bs ds c p q = p .file ∙ sym (q .file)
 
 abbrev Outcome : List ℕ → Type 0
 Outcome bs = ((c : Capture) × Holds bs c) ⊎ ((n : ℕ) × Refuses bs n)

@@ -1,6 +1,7 @@
 -- What is proved of capture files.
 -- ┌───────────────┬────────────────────────────────────────────────────────────────┐
 -- │ OneCapture    │ a file says one thing: captures with one file are the same     │
+-- │ SaidByOne     │ and a thing is said by one file                                │
 -- │ HeldOrRefused │ any bytes hold a capture, or are refused                       │
 -- │ OneRefusal    │ with one number                                                │
 -- │ OnlyRefused   │ refused exactly where no capture within the limits makes them  │
@@ -28,6 +29,9 @@ use Rattle.filing.specs.Refused.{noTag, disagreeing, tooManyFrames, Refu
 
 abbrev pub OneCapture : Type 0
 OneCapture = (c d : Capture) → Writable c → Writable d → fileOf c ≡ fileOf d → c ≡ d
+
+abbrev pub SaidByOne : Type 0
+SaidByOne = (bs ds : List ℕ) (c : Capture) → Holds bs c → Holds ds c → bs ≡ ds
 
 abbrev pub HeldOrRefused : Type 0
 HeldOrRefused = (bs : List ℕ) → Octets bs → ((c : Capture) × Holds bs c) ⊎ ((n : ℕ) × Refuses bs n)

@@ -15,3 +15,13 @@ pub(crate) fn within(head: &[u8], i: usize, list: &[u8]) -> usize
 {
     io::count(half(head, i) as isize, list)
 }
+
+// n, no more than the list has.
+pub(crate) fn up_to(n: usize, list: &[u64]) -> usize
+    ensures { λ r. ⌜ Counts r (now (list .entry)) ⌝ }
+{
+    if n < list.len() {
+        return n;
+    }
+    list.len()
+}

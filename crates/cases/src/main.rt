@@ -12,8 +12,13 @@
 //  7 pattern fill   pattern a, register b; of what is lent and filled the first part is shown
 //  8 pattern feed   pattern a, filled b, register c, bits d, errors e: fed the first part; and the report before it is fed
 //  9 tally add      the six counts; the verdicts are the first part, the flags the second
-// 10 lane count     the six counts; the piece is the first part. So is any other kind.
+// 10 lane count     the six counts; the piece is the first part. So is any kind that is not here
+// 11 capture write  lane a, length of the output b; the frames are the first part, the notes the second: written from numbers, the first
+//                   part's whole eights, and from its bytes. Every byte of the outputs is shown where c is 1
+// 12 capture read   lengths of the lists a, of numbers, and b, of bytes; the file is the first part: its head, its frames in either list,
+//                   its notes
 mod blocks;
+mod captures;
 mod copies;
 mod fields;
 mod patterns;
@@ -36,6 +41,8 @@ fn on_lists<'a>(kind: u64, head: &[u8], first: &'a [u8], second: &'a [u8]) {
         6 => patterns::start(head),
         8 => patterns::feed(head, first),
         9 => tallies::add(head, first, second),
+        11 => captures::write(head, first, second),
+        12 => captures::read(head, first),
         _ => tallies::count(head, first),
     }
 }

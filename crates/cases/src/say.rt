@@ -45,3 +45,39 @@ pub(crate) fn bytes(s: &[u8]) {
     }
     io::write_all(STDOUT_FILENO, b" ");
 }
+
+fn wide(byte: u8) -> u64 {
+    byte as u64
+}
+
+// The sum of a list and of one number more; of two numbers below 2^32 each makes its own.
+fn with(sum: u64, x: u64) -> u64 {
+    let half = (sum % 4294967296 * 16777619 + x / 4294967296) % 4294967296;
+    (half * 16777619 + x % 4294967296) % 4294967296
+}
+
+// Up to 200 bytes, two digits each; else their sum, from their number on.
+pub(crate) fn list(s: &[u8]) {
+    if s.len() <= 200 {
+        bytes(s);
+        return;
+    }
+    let mut sum = s.len() as u64;
+    let mut at = 0;
+    while at < s.len() {
+        sum = with(sum, wide(s[at]));
+        at += 1;
+    }
+    number(sum);
+}
+
+// The sum of numbers, from their number on.
+pub(crate) fn numbers(s: &[u64]) {
+    let mut sum = s.len() as u64;
+    let mut at = 0;
+    while at < s.len() {
+        sum = with(sum, s[at]);
+        at += 1;
+    }
+    number(sum);
+}

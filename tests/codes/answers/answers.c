@@ -19,8 +19,18 @@ void print_bytes(const uint8_t *bytes, uint64_t n)
 }
 
 static void (*const kinds[KINDS])(void) = {
-    [HIER_MAKE] = hier_make, [HIER_READ] = hier_read, [DAP_MAKE] = dap_make, [DAP_READ] = dap_read, [BUS] = bus,
-    [START] = pattern_start, [FILL] = pattern_fill,   [FEED] = pattern_feed, [TALLY] = tally_add,   [LANE] = lane_count,
+    [HIER_MAKE] = hier_make,
+    [HIER_READ] = hier_read,
+    [DAP_MAKE] = dap_make,
+    [DAP_READ] = dap_read,
+    [BUS] = bus,
+    [START] = pattern_start,
+    [FILL] = pattern_fill,
+    [FEED] = pattern_feed,
+    [TALLY] = tally_add,
+    [LANE] = lane_count,
+    [CAPTURE_WRITE] = capture_write,
+    [CAPTURE_READ] = capture_read,
 };
 
 // Fills as much as standard input has; answers whether that is all.

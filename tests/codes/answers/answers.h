@@ -27,4 +27,6 @@ void pattern_fill(void);
 void pattern_feed(void);
 void tally_add(void);
 void lane_count(void);
+void capture_write(void);
+void capture_read(void);
 #endif

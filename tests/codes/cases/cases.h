@@ -31,4 +31,5 @@ void fill_cases(void);
 void feed_cases(void);
 void tally_cases(void);
 void lane_cases(void);
+void capture_cases(void);
 #endif

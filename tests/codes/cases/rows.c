@@ -171,6 +171,41 @@ static void tally_rows(void)
     add(LANE, "lane count");
 }
 
+// A frame and the notes "ok", of lane 01020304.
+static const char capture[] = "\0\0\x80\0\x44\x8d\x21\xb9"
+                              "okLCAP\1\2\3\4"
+                              "\0\0\0\0\0\0\0\1"
+                              "\0\0\0\0\0\0\0\12";
+
+static void write_row(uint64_t frames, uint64_t notes, uint64_t room)
+{
+    memcpy(next.list, capture, 10);
+    next.size = 10;
+    next.extra = 8 * frames + notes - 10;
+    next.split = 8 * frames + 1;
+    VALUES_OF(0x01020304, room);
+    add(CAPTURE_WRITE, "capture write");
+}
+
+static void read_row(uint64_t changed, uint64_t byte, uint64_t room)
+{
+    memcpy(next.list, capture, 34);
+    next.list[changed] = (uint8_t)byte;
+    next.size = 34;
+    VALUES_OF(room, 8 * room);
+    add(CAPTURE_READ, "capture read");
+}
+
+static void capture_rows(void)
+{
+    write_row(1, 2, 36);
+    write_row(1, 2, 33);
+    write_row(8001, 0, 8 * 8001 + 24);
+    read_row(0, 0, 8000);
+    read_row(13, 'Q', 0);
+    read_row(18, 0x20, 0); // a count of 2^61 + 1
+}
+
 void rows(void)
 {
     hier_rows();
@@ -179,4 +214,5 @@ void rows(void)
     generator_rows();
     counter_rows();
     tally_rows();
+    capture_rows();
 }

@@ -8,13 +8,11 @@ ghost use Rattle.capture.specs.Answers as labels;
 ghost use Rattle.capture.specs.Answers.{filed};
 ghost use Rattle.host.specs.Entries.{returned};
 ghost use Rattle.host.specs.Captures.{WritesFile, labelBytes, labelled, ReadsLabel, ReadsFile};
+use crate::UNFIT;
 use crate::wide;
 use capture::Filed;
 use capture::Label;
 use capture::Labelled;
-
-// 12 as C gets it.
-const UNFIT: u64 = paper::UNFIT as u64;
 
 // The bytes of an answer.
 const LABEL_BYTES: usize = 12;

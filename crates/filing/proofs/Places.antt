@@ -1,30 +1,23 @@
 -- The refusals by places, and an example: claims of specs/Claims.antt, by the same names in lower case.
 use mathlib.Core.Path.{_≡_, refl, sym, ap, ap₂, _∙_}
 use mathlib.Core.Bool.{Bool, true, false}
-use mathlib.Core.List.{List, [], _∷_}
+use mathlib.Core.List.{List}
 use mathlib.Core.Logic.{_⊎_, inl, inr}
 use Prim.Native.Nat.{ℕ, _+_, _-_, _*_, _/_, _^_, _<_, _≤_}
 use native.Mathlib.Omega.{arith}
 use borrow.Author.Tests.{ltb-true, ltb-false, eqb-true, eqb-false}
 use lib.Dec.{ltb, eqb}
-use lib.ListN.{length, getD, take, drop, take-append-drop, length-drop}
+use lib.ListN.{length, getD, take, drop, take-append-drop}
 use lib.Seq.{drop-at, length-take-le, getD-take}
 use Rattle.laws.specs.Bits.{Octets}
-use Rattle.radix.specs.Octets.{joined, numbers, inBytes, eight, bytesOf}
+use Rattle.radix.specs.Octets.{joined, inBytes, eight, bytesOf}
 use Rattle.radix.proofs.Joined.{joined-second}
 use Rattle.filing.specs.File.{tag, trailer, contents, fileOf}
 use Rattle.filing.specs.Refused.{noTag, disagreeing, Trailed, PointsBack, Refuses, over-size, no-tag, disagree, too-many}
 use Rattle.filing.specs.Claims.{tagOf, Only21, Only22, AnExample}
-use Rattle.filing.proofs.Trailer.{tagNumber, marks, mark, marks-of, octets-drop, trailed}
+use Rattle.filing.proofs.Trailer.{tagNumber, mark, marks-of, marks-are, octets-drop, trailed}
 
 module _ (bs : List ℕ) (o : Octets bs) where
-  tail-size : 24 ≤ length bs → length (drop (length bs - 24) bs) ≡ 24
-  tail-size k = length-drop (length bs - 24) bs ∙ (let e : length bs - (length bs - 24) ≡ 24 = omega arith in e)
-
-  marks-are : 24 ≤ length bs → let tl = drop (length bs - 24) bs in marks bs ≡ joined 8 tl 0 ∷ joined 8 tl 8 ∷ joined 8 tl 16 ∷ []
-  unfolding marks numbers
-  marks-are k = ap (λ (n : ℕ). numbers (n / 8) (drop (length bs - 24) bs) 0) (tail-size k)
-
   at-place : 24 ≤ length bs → (i j : ℕ) → length bs - 24 + i ≡ j → joined 8 (drop (length bs - 24) bs) i ≡ joined 8 bs j
   at-place k i j e =
       let n : ℕ = length bs - 24 in
@@ -32,10 +25,10 @@ module _ (bs : List ℕ) (o : Octets bs) where
       ∙ ap₂ (joined 8) (take-append-drop n bs) (ap (λ (m : ℕ). m + i) (length-take-le n bs (omega arith)) ∙ e)
 
   count-at : 24 ≤ length bs → mark bs 1 ≡ joined 8 bs (length bs - 16)
-  count-at k = ap (λ (l : List ℕ). getD l 1 0) (marks-are k) ∙ at-place k 8 (length bs - 16) (omega arith)
+  count-at k = ap (λ (l : List ℕ). getD l 1 0) (marks-are bs k) ∙ at-place k 8 (length bs - 16) (omega arith)
 
   distance-at : 24 ≤ length bs → mark bs 2 ≡ joined 8 bs (length bs - 8)
-  distance-at k = ap (λ (l : List ℕ). getD l 2 0) (marks-are k) ∙ at-place k 16 (length bs - 8) (omega arith)
+  distance-at k = ap (λ (l : List ℕ). getD l 2 0) (marks-are bs k) ∙ at-place k 16 (length bs - 8) (omega arith)
 
   -- the tag stands there where its number does
   tag-at : 24 ≤ length bs → tagOf bs ≡ tag → mark bs 0 / 2 ^ 32 ≡ tagNumber
@@ -43,7 +36,7 @@ module _ (bs : List ℕ) (o : Octets bs) where
   tag-at k e =
       let tl = drop (length bs - 24) bs in
       let b : (i : ℕ) → i < 4 → getD tl i 0 ≡ getD tag i 0 = λ i l. sym (getD-take 4 tl i 0 l) ∙ ap (λ (x : List ℕ). getD x i 0) e in
-      ap (λ (l : List ℕ). getD l 0 0 / 2 ^ 32) (marks-are k)
+      ap (λ (l : List ℕ). getD l 0 0 / 2 ^ 32) (marks-are bs k)
       ∙ omega (
         arith,
         b 0 (omega arith),

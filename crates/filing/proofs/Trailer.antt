@@ -9,6 +9,7 @@
 -- │ mark bs i     │ one of them                                                    │
 -- │ Marks t       │ the numbers of a trailer stand there                           │
 -- │ marks-of      │ as they must                                                   │
+-- │ marks-are     │ they are three, by their bytes                                 │
 -- │ octets-drop   │ what follows any place of bytes is bytes                       │
 -- │ trailed       │ where the tag stands there is a trailer                        │
 -- └───────────────┴────────────────────────────────────────────────────────────────┘
@@ -124,14 +125,22 @@ marks-of {bs} t =
 pub octets-drop : (n : ℕ) (bs : List ℕ) → Octets bs → Octets (drop n bs)
 octets-drop n bs h i = subst (λ (x : ℕ). x < 256) (sym (getD-drop n bs i 0)) (h (n + i))
 
-pub trailed : (bs : List ℕ) → Octets bs → 24 ≤ length bs → mark bs 0 / 2 ^ 32 ≡ tagNumber → Trailed bs
+tail-size : (bs : List ℕ) → 24 ≤ length bs → length (drop (length bs - 24) bs) ≡ 24
+tail-size bs n = length-drop (length bs - 24) bs ∙ (let e : length bs - (length bs - 24) ≡ 24 = omega arith in e)
+
+pub marks-are : (bs : List ℕ) → 24 ≤ length bs → let tl = drop (length bs - 24) bs in
+    marks bs ≡ joined 8 tl 0 ∷ joined 8 tl 8 ∷ joined 8 tl 16 ∷ []
 unfolding marks numbers
+marks-are bs n = ap (λ (k : ℕ). numbers (k / 8) (drop (length bs - 24) bs) 0) (tail-size bs n)
+
+pub trailed : (bs : List ℕ) → Octets bs → 24 ≤ length bs → mark bs 0 / 2 ^ 32 ≡ tagNumber → Trailed bs
+unfolding marks
 trailed bs h n e =
     let at = length bs - 24 in
     let tl = drop at bs in
     let o = octets-drop at bs h in
-    let size : length tl ≡ 24 = length-drop at bs ∙ (let r : length bs - at ≡ 24 = omega arith in r) in
-    let all : marks bs ≡ joined 8 tl 0 ∷ joined 8 tl 8 ∷ joined 8 tl 16 ∷ [] = ap (λ (k : ℕ). numbers (k / 8) tl 0) size in
+    let size = tail-size bs n in
+    let all = marks-are bs n in
     let x : mark bs 0 ≡ joined 8 tl 0 = ap (λ (l : List ℕ). getD l 0 0) all in
     let m : marked (joined 8 tl 0 % 2 ^ 32) ≡ joined 8 tl 0 = omega arith in
     record {

@@ -10,15 +10,16 @@
 uint8_t bench_read(uint64_t frame);
 uint8_t bench_make_list(const uint64_t *data, size_t data_len, uint64_t *frames, size_t frames_len);
 uint8_t bench_read_list(const uint64_t *frames, size_t frames_len, uint64_t *data, size_t data_len, uint8_t *verdicts,
-                            size_t verdicts_len);
+                        size_t verdicts_len, uint8_t *checks, size_t checks_len);
 uint8_t bench_read_list_pads(const uint64_t *frames, size_t frames_len, uint64_t *data, size_t data_len, uint8_t *verdicts,
-                                 size_t verdicts_len, uint8_t *pads, size_t pads_len);
+                             size_t verdicts_len, uint8_t *pads, size_t pads_len, uint8_t *checks, size_t checks_len);
 
 uint64_t lks_frames_make(const uint8_t *data, size_t data_len, uint8_t *frames, size_t frames_len);
-uint64_t lks_frames_read(const uint8_t *frames, size_t frames_len, uint8_t *data, size_t data_len, uint8_t *verdicts, size_t verdicts_len);
+uint64_t lks_frames_read(const uint8_t *frames, size_t frames_len, uint8_t *data, size_t data_len, uint8_t *verdicts, size_t verdicts_len,
+                         uint8_t *checks, size_t checks_len);
 
 static uint64_t data[STORE], frames[STORE], out[STORE];
-static uint8_t verdicts[STORE], pads[STORE];
+static uint8_t verdicts[STORE], pads[STORE], checks[STORE];
 static uint8_t in_bytes[STORE * 8], out_bytes[STORE * 8];
 
 // ---- the same work in C
@@ -70,25 +71,27 @@ __attribute__((noinline)) static uint64_t c_make_list(const uint64_t *restrict d
     return 0;
 }
 
-__attribute__((noinline)) static void c_read_list(const uint64_t *restrict f, size_t n, uint64_t *restrict d, uint8_t *restrict v)
+__attribute__((noinline)) static void c_read_list(const uint64_t *restrict f, size_t n, uint64_t *restrict d, uint8_t *restrict v,
+                                                  uint8_t *restrict c)
 {
     uint8_t pad;
     for (size_t i = 0; i < n; i++)
-        v[i] = said(sums_in(f + i), f[i], d + i, &pad);
+        v[i] = said(sums_in(f + i), f[i], d + i, &pad, c + i);
 }
 
-__attribute__((noinline)) static void c_read_list_by_shifts(const uint64_t *restrict f, size_t n, uint64_t *restrict d, uint8_t *restrict v)
+__attribute__((noinline)) static void c_read_list_by_shifts(const uint64_t *restrict f, size_t n, uint64_t *restrict d,
+                                                            uint8_t *restrict v, uint8_t *restrict c)
 {
     uint8_t pad;
     for (size_t i = 0; i < n; i++)
-        v[i] = said(sums_of(f[i]), f[i], d + i, &pad);
+        v[i] = said(sums_of(f[i]), f[i], d + i, &pad, c + i);
 }
 
 __attribute__((noinline)) static void c_read_list_pads(const uint64_t *restrict f, size_t n, uint64_t *restrict d, uint8_t *restrict v,
-                                                       uint8_t *restrict p)
+                                                       uint8_t *restrict p, uint8_t *restrict c)
 {
     for (size_t i = 0; i < n; i++)
-        v[i] = said(sums_in(f + i), f[i], d + i, p + i);
+        v[i] = said(sums_in(f + i), f[i], d + i, p + i, c + i);
 }
 
 __attribute__((noinline)) static uint64_t c_make_bytes(const uint8_t *restrict d, size_t n, uint8_t *restrict f)
@@ -103,18 +106,22 @@ __attribute__((noinline)) static uint64_t c_make_bytes(const uint8_t *restrict d
     return 0;
 }
 
-__attribute__((noinline)) static void c_read_bytes(const uint8_t *restrict f, size_t n, uint8_t *restrict d, uint8_t *restrict v)
+__attribute__((noinline)) static void c_read_bytes(const uint8_t *restrict f, size_t n, uint8_t *restrict d, uint8_t *restrict v,
+                                                   uint8_t *restrict c)
 {
     uint64_t x;
     uint8_t pad;
     for (size_t i = 0; i < n; i++) {
-        v[i] = said(sums_at(f + 8 * i), get(f + 8 * i), &x, &pad);
+        v[i] = said(sums_at(f + 8 * i), get(f + 8 * i), &x, &pad, c + i);
         put(d + 8 * i, x);
     }
 }
 
 // one frame a call; its tables are ready
-__attribute__((noinline)) static uint8_t c_read(uint64_t f, uint64_t *d, uint8_t *pad) { return said(sums_of(f), f, d, pad); }
+__attribute__((noinline)) static uint8_t c_read(uint64_t f, uint64_t *d, uint8_t *pad, uint8_t *c)
+{
+    return said(sums_of(f), f, d, pad, c);
+}
 
 static void on_bytes(int ours, int make, size_t n)
 {
@@ -125,9 +132,9 @@ static void on_bytes(int ours, int make, size_t n)
     else if (make)
         c_make_bytes(in_bytes, n, out_bytes);
     else if (ours)
-        lks_frames_read(in_bytes, 8 * n, out_bytes, sizeof out_bytes, verdicts, STORE);
+        lks_frames_read(in_bytes, 8 * n, out_bytes, sizeof out_bytes, verdicts, STORE, checks, STORE);
     else
-        c_read_bytes(in_bytes, n, out_bytes, verdicts);
+        c_read_bytes(in_bytes, n, out_bytes, verdicts, checks);
     for (size_t i = 0; i < STORE; i++)
         out[i] = get(out_bytes + 8 * i);
 }
@@ -156,23 +163,23 @@ static void work(const char *call, const char *who, size_t n)
             c_make_list(data, n, out);
     } else if (!strcmp(call, "read")) {
         if (ours)
-            bench_read_list(frames, n, out, STORE, verdicts, STORE);
+            bench_read_list(frames, n, out, STORE, verdicts, STORE, checks, STORE);
         else if (!strcmp(who, "shifts"))
-            c_read_list_by_shifts(frames, n, out, verdicts);
+            c_read_list_by_shifts(frames, n, out, verdicts, checks);
         else
-            c_read_list(frames, n, out, verdicts);
+            c_read_list(frames, n, out, verdicts, checks);
     } else if (!strcmp(call, "pads")) {
         if (ours)
-            bench_read_list_pads(frames, n, out, STORE, verdicts, STORE, pads, STORE);
+            bench_read_list_pads(frames, n, out, STORE, verdicts, STORE, pads, STORE, checks, STORE);
         else
-            c_read_list_pads(frames, n, out, verdicts, pads);
+            c_read_list_pads(frames, n, out, verdicts, pads, checks);
     } else if (!strcmp(call, "bytes-make") || !strcmp(call, "bytes-read")) {
         on_bytes(ours, !strcmp(call, "bytes-make"), n);
     } else {
         uint64_t d;
-        uint8_t pad;
+        uint8_t pad, check;
         for (size_t i = 0; i < n; i++)
-            verdicts[i] = ours ? bench_read(frames[i]) : c_read(frames[i], &d, &pad);
+            verdicts[i] = ours ? bench_read(frames[i]) : c_read(frames[i], &d, &pad, &check);
     }
 }
 
@@ -189,6 +196,6 @@ int main(int argc, char **argv)
     make_input(!strcmp(argv[4], "one") ? 1 : !strcmp(argv[4], "two") ? 2 : 0);
     work(argv[2], argv[1], n);
     for (size_t i = 0; i < STORE; i++)
-        sum += out[i] * 31 + verdicts[i] + pads[i];
+        sum += ((out[i] * 31 + verdicts[i]) * 31 + pads[i]) * 31 + checks[i];
     return printf("%llu\n", (unsigned long long)sum) < 0;
 }

@@ -7,7 +7,7 @@ static uint8_t buffer[65536];
 
 int main(void)
 {
-    uint64_t frames = 0, counts[15] = {0}, pads = 0, data, left = 0;
+    uint64_t frames = 0, counts[15] = {0}, pads = 0, checks = 0, data, left = 0;
     tables();
     for (;;) {
         size_t have = 0;
@@ -20,16 +20,18 @@ int main(void)
                 break;
         }
         for (size_t i = 0; i + 8 <= have; i += 8) {
-            uint8_t pad;
-            counts[said(sums_at(buffer + i), get(buffer + i), &data, &pad)]++;
+            uint8_t pad, check;
+            counts[said(sums_at(buffer + i), get(buffer + i), &data, &pad, &check)]++;
             pads += pad;
+            checks += check;
             frames++;
         }
         left = have % 8;
         if (have < sizeof buffer)
             break;
     }
-    printf("frames %lu\nclean %lu\none %lu\ntwo %lu\nno-word %lu\nrun-broken %lu\npad-wrong %lu\nleft-over %lu\n", frames, counts[0], counts[1],
-           counts[2], counts[13], counts[14], pads, left);
+    printf("frames %lu\nclean %lu\none %lu\ntwo %lu\nno-word %lu\nrun-broken %lu\n", frames, counts[0], counts[1], counts[2], counts[13],
+           counts[14]);
+    printf("pad-wrong %lu\ncheck-flips %lu\nleft-over %lu\n", pads, checks, left);
     return 0;
 }

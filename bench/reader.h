@@ -1,13 +1,16 @@
-// The reader in C, as good as we can write it: eight tables of 256 entries over a frame's own bytes and the table of corrections, each
-// entry the remainder or the places in its twelve low bits and the run sums in bits 12 to 14. One comparison tells a clean frame. The
-// tables are made once, by long division, which shares nothing with them but g.
+// The reader in C, as good as we can write it: eight tables of 256 entries over a frame's own bytes and two of 4,096, the corrections and
+// their masks. An entry of a byte is its remainder, one of a correction the check flips and from bit 8 on the flips; bits 12 to 14 of either
+// are the run sums. One comparison tells a clean frame, and one that a frame is refused. The tables are made once, by long division, which
+// shares nothing with them but g.
 #ifndef READER_H
 #define READER_H
 #include "plain.h"
 
 #define CLEAN 0x7000u // remainder 0, and every run bit right
+#define NONE 0x8000u  // no correction, whatever the run sums
 
 static uint16_t bytes[8][256], corrections[4096];
+static uint64_t masks[4096]; // the places to flip, as ones of a frame
 
 static uint64_t division(uint64_t v)
 {
@@ -31,11 +34,16 @@ static void tables(void)
         spot[i] = (1ull << 62) >> i;
         sums[i] = run_sums(spot[i]) << 12 | division(spot[i]);
     }
+    for (int i = 0; i < 4096; i++)
+        corrections[i] = NONE;
+    // 63 stands for no place
     for (int a = 0; a < 64; a++)
         for (int b = a; b < 64; b++)
             if (a < b || a == 63) {
                 uint64_t s = sums[a] ^ sums[b];
-                corrections[s & 4095] = (uint16_t)((s & 0x7000) | (uint64_t)(a * 64 + b));
+                int flips = (a < 63) + (b < 63), checks = (a > 50 && a < 63) + (b > 50 && b < 63);
+                corrections[s & 4095] = (uint16_t)((s & 0x7000) | (uint64_t)(flips << 8 | checks));
+                masks[s & 4095] = (spot[a] ^ spot[b]) << 1;
             }
     // position 63 of a frame is its pad, which is in no sum
     for (int k = 0; k < 8; k++)
@@ -71,25 +79,25 @@ static inline uint64_t data_in(uint64_t f)
     return (f >> 16 & 0xffff00000000) | (f >> 15 & 0xffff0000) | (f >> 14 & 0xffff);
 }
 
-// What the frame f says whose sums are x: the verdict, the data and the pad flag, both 0 where it is refused.
-static inline uint8_t said(unsigned x, uint64_t f, uint64_t *d, uint8_t *pad)
+// What the frame f says whose sums are x: the verdict, the data, the pad flag and the check flips, these 0 where it is refused.
+static inline uint8_t said(unsigned x, uint64_t f, uint64_t *d, uint8_t *pad, uint8_t *checks)
 {
     if (__builtin_expect(x == CLEAN, 1)) {
         *d = data_in(f);
         *pad = (f ^ f >> 1 ^ 1) & 1;
+        *checks = 0;
         return 0;
     }
-    unsigned n = corrections[x & 4095], a = n >> 6 & 63, b = n & 63;
-    *d = 0;
-    *pad = 0;
-    if (n == 0)
-        return 13;
-    if ((x ^ n) >> 12 != 7)
-        return 14;
-    // 63 stands for no place: there the pad is turned, and not looked at again
-    uint64_t g = f ^ (1ull << 63) >> a ^ (1ull << 63) >> b;
+    unsigned n = corrections[x & 4095];
+    if ((x ^ n) >> 12 != 7) {
+        *d = 0;
+        *pad = *checks = 0;
+        return n & NONE ? 13 : 14;
+    }
+    uint64_t g = f ^ masks[x & 4095];
     *d = data_in(g);
     *pad = (f ^ g >> 1 ^ 1) & 1;
-    return (uint8_t)((a != 63) + (b != 63));
+    *checks = (uint8_t)n;
+    return (uint8_t)(n >> 8 & 3);
 }
 #endif

@@ -27,7 +27,7 @@
 
 /* The version of this header and of its library: ten thousand times the major, a hundred times the minor number, and the patch. The major
  * number changes when a program that was built against an older header could be misled, the minor number when calls are added. */
-#define LKS_VERSION 10100
+#define LKS_VERSION 20000
 
 /* The refusals of frames, */
 #define LKS_TOO_LARGE 11  /* a data word of 2^48 or more */
@@ -44,8 +44,9 @@
  *   byte  8      the number of flips corrected, 0, 1 or 2
  *   bytes 9, 10  their places, positions 0 to 62, the lower first; LKS_NO_PLACE where there is none
  *   byte  11     1 where the pad is wrong, that is, not the opposite of the corrected position 62; else 0
+ *   byte  12     the check flips, that is, how many of those places are check bits, positions 51 to 62; 0, 1 or 2
  */
-#define LKS_ANSWER_BYTES 12
+#define LKS_ANSWER_BYTES 13
 #define LKS_NO_PLACE 255
 
 /* A capture file, all numbers highest byte first:
@@ -72,9 +73,9 @@ extern "C" {
  * Returns the frame, or 11 where data is 2^48 or more. A frame is at least 2^47, so the two cannot be mistaken. */
 uint64_t lks_frame_make(uint64_t data);
 
-/* Reads a frame, correcting up to two flips among positions 0 to 62, and writes the first 12 bytes of answer.
+/* Reads a frame, correcting up to two flips among positions 0 to 62, and writes the first 13 bytes of answer.
  * Returns 0, or
- *   12  answer_len is below 12
+ *   12  answer_len is below 13
  *   13  no code word within two flips
  *   14  the code word within two flips has a wrong run bit */
 uint64_t lks_frame_read(uint64_t frame, uint8_t *answer, size_t answer_len);
@@ -85,13 +86,15 @@ uint64_t lks_frame_read(uint64_t frame, uint8_t *answer, size_t answer_len);
  *   11  a data word of the list is 2^48 or more: the list is refused whole */
 uint64_t lks_frames_make(const uint8_t *data, size_t data_len, uint8_t *frames, size_t frames_len);
 
-/* Reads a list of frames. For each it writes its data word, and one verdict byte: the number of flips corrected (0, 1, 2), or 13 or
- * 14, and then its data word is 0. A frame that cannot be read does not stop the list, and the call does not refuse for it.
- * Writes the first frames_len bytes of data and the first frames_len / 8 of verdicts.
+/* Reads a list of frames. For each it writes its data word, one verdict byte, the number of flips corrected (0, 1, 2) or 13 or 14, and one
+ * byte of check flips (0, 1, 2); of a frame with 13 or 14 the data word and the check flips are 0. A frame that cannot be read does not stop
+ * the list, and the call does not refuse for it.
+ * Writes the first frames_len bytes of data, and the first frames_len / 8 of verdicts and of checks.
  * Returns 0, or
- *   12  frames_len or data_len is not divisible by eight, data_len is below frames_len, or verdicts_len is below frames_len / 8 */
+ *   12  frames_len or data_len is not divisible by eight, data_len is below frames_len, or verdicts_len or checks_len is below
+ *       frames_len / 8 */
 uint64_t lks_frames_read(const uint8_t *frames, size_t frames_len, uint8_t *data, size_t data_len, uint8_t *verdicts,
-                         size_t verdicts_len);
+                         size_t verdicts_len, uint8_t *checks, size_t checks_len);
 
 /* Writes the capture file of a lane, its frames and its notes to the start of file.
  * Returns the length of the file, frames_len + notes_len + 24. A number below 24 is a refusal:

@@ -5,12 +5,13 @@
 
 enum { HIER_MAKE = 1, HIER_READ, DAP_MAKE, DAP_READ, BUS, START, FILL, FEED, TALLY, LANE, CAPTURE_WRITE, CAPTURE_READ, KINDS };
 
-// the length of a name, where each number of a head stands, and the length of a head
-enum { NAME = 16, KIND = NAME, TAKEN = KIND + 8, LENT = TAKEN + 8, SPLIT = LENT + 8, VALUES = SPLIT + 8, HEAD = VALUES + 6 * 8 };
+// how many values a head has, the length of a name, where each number of a head stands, and the length of a head
+enum { VALUE_COUNT = 8, NAME = 16, KIND = NAME, TAKEN = KIND + 8, LENT = TAKEN + 8, SPLIT = LENT + 8, VALUES = SPLIT + 8 };
+enum { HEAD = VALUES + 8 * VALUE_COUNT };
 
 enum { LONGEST = 65536 }; // bytes of a piece or a buffer
 
-#define MOST (((uint64_t)1 << 53) - 1) // bits compared by a counter, frames in a tally
+#define MOST (((uint64_t)1 << 53) - 1) // bits compared by a counter, frames and check flips in a tally
 
 int answers(void);            // answers the cases on standard input, a line each
 int cases(const char *group); // writes cases: see cases/cases.c

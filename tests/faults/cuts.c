@@ -8,6 +8,8 @@ static int is_telling(unsigned bits) { return bits == 13 || bits == 17 || bits =
 
 static uint64_t read_at(unsigned bits) { return at[bits].verdict[0] + at[bits].verdict[1] + at[bits].verdict[2]; }
 
+static uint64_t flips_at(unsigned bits) { return at[bits].verdict[1] + 2 * at[bits].verdict[2]; }
+
 static void cut(unsigned bits)
 {
     for (size_t i = 0; i < FRAMES; i++) {
@@ -17,8 +19,8 @@ static void cut(unsigned bits)
     }
     const uint64_t *v = at[bits].verdict;
     if (bits <= 8 || is_telling(bits) || bits == 63)
-        printf("| %u | %s | %s | %s | %s | %s | %s |\n", bits, figure(v[0]), figure(v[1]), figure(v[2]), figure(v[13]), figure(v[14]),
-               figure(at[bits].pad_wrong));
+        printf("| %u | %s | %s | %s | %s | %s | %s | %s |\n", bits, figure(v[0]), figure(v[1]), figure(v[2]), figure(v[13]),
+               figure(v[14]), figure(at[bits].pad_wrong), figure(at[bits].check_flips));
 }
 
 // What the page says of cuts without a figure.
@@ -38,6 +40,10 @@ static void held(unsigned bits)
         uint64_t here = at[bits].verdict[v], there = at[64 - bits].verdict[v];
         must(here < there + 100 && there < here + 100, "up to eight bits, either side looks as the other");
     }
+    if (bits <= 8)
+        must(at[64 - bits].check_flips < at[bits].check_flips, "up to eight bits, more check flips are late than early");
+    if (bits <= 3)
+        must(at[bits].check_flips == flips_at(bits) && at[64 - bits].check_flips == 0, "up to three bits check flips tell late from early");
 }
 
 static void widen(uint64_t range[2], uint64_t n)
@@ -62,6 +68,7 @@ void says_of_cuts(void)
     for (unsigned bits = 1; bits < 64; bits++)
         held(bits);
     printf("Cut 1, 2, 62 or 63 bits late, no frame is no-word.\n");
+    printf("Up to three bits late all flips undone are in check bits, up to three bits early none.\n");
     printf("No wrong cut has more than %s clean frames of %s, and none hands back data that was sent.\n", figure(clean[1]),
            figure(FRAMES));
     printf("Every other cut from 7 to 57 bits late has %s to %s frames no-word and %s to %s read.\n", figure(no_word[0]),

@@ -9,7 +9,7 @@ struct worth {
 
 static struct worth worth_of(uint64_t (*received)(size_t i))
 {
-    struct worth w = {{0, {0}, 0}, 0, 0, 0, {0}};
+    struct worth w = {{0, {0}, 0, 0}, 0, 0, 0, {0}};
     for (size_t i = 0; i < FRAMES; i++) {
         uint64_t frame = received(i);
         struct reading r = independent_read(frame);
@@ -33,12 +33,20 @@ static void misread(const struct worth *w)
            figure(w->all.verdict[2]), figure(w->other[2]), figure(w->all.verdict[1]), figure(w->other[1]));
 }
 
+static void in_check_bits(const struct worth *w)
+{
+    uint64_t flips = w->all.verdict[1] + 2 * w->all.verdict[2], checks = w->all.check_flips;
+    must(9 * 12 * flips < 10 * 63 * checks && 10 * 63 * checks < 11 * 12 * flips, "by chance, about 12 in 63 flips are in check bits");
+    printf("Of the %s flips undone %s are in check bits, about 12 in 63.\n", figure(flips), figure(checks));
+}
+
 static void by_chance(void)
 {
     struct worth w = worth_of(chance);
     uint64_t clean = w.all.verdict[0], one = w.all.verdict[1], two = w.all.verdict[2];
     must(18 * clean * two < 10 * one * one && 10 * one * one < 22 * clean * two, "by chance, one × one is about twice clean × two");
     printf("Here 63 × clean / one is %s, and one bit in 128 was flipped.\n", figure((63 * clean + one / 2) / one));
+    in_check_bits(&w);
     misread(&w);
 }
 

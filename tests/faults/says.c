@@ -26,6 +26,7 @@ void count(struct figures *f, const struct reading *r)
     f->frames++;
     f->verdict[r->verdict]++;
     f->pad_wrong += r->pad_wrong;
+    f->check_flips += r->check_flips;
 }
 
 static void crossed_pair(void)

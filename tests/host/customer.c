@@ -12,20 +12,23 @@ struct lent {
     uint8_t now[WHOLE], due[WHOLE];
 };
 
-// One row of the paper, or a flip more or less in one of them.
+// A row of the paper, or one of them with other flips.
 static const struct row {
     uint64_t frame, refusal, data;
-    uint8_t rest[4]; // bytes 8..11 of the answer
+    uint8_t rest[5]; // bytes 8..12 of the answer
 } rows[] = {
-    {0x0000800040003565u, 0, 0, {0, 255, 255, 0}},
-    {0x8000800040003567u, 0, 0, {2, 0, 62, 0}},
-    {0x000080004000356Bu, 13, 0, {0, 0, 0, 0}},
-    {0xFFFF7FFFBFFFCA9Au, 0, 0xFFFFFFFFFFFFu, {0, 255, 255, 0}},
-    {0, 14, 0, {0, 0, 0, 0}},
-    {0x0000800040003567u, 0, 0, {1, 62, 255, 0}},
-    {0x0000800040003564u, 0, 0, {0, 255, 255, 1}},
-    {0x8000800040003564u, 0, 0, {1, 0, 255, 1}},
-    {~(uint64_t)0, 14, 0, {0, 0, 0, 0}},
+    {0x0000800040003565u, 0, 0, {0, 255, 255, 0, 0}},
+    {0x8000800040003567u, 0, 0, {2, 0, 62, 0, 1}},
+    {0x000080004000356Bu, 13, 0, {0, 0, 0, 0, 0}},
+    {0xFFFF7FFFBFFFCA9Au, 0, 0xFFFFFFFFFFFFu, {0, 255, 255, 0, 0}},
+    {0, 14, 0, {0, 0, 0, 0, 0}},
+    {0x0000800040003567u, 0, 0, {1, 62, 255, 0, 1}},
+    {0x0000800040003564u, 0, 0, {0, 255, 255, 1, 0}},
+    {0x8000800040003564u, 0, 0, {1, 0, 255, 1, 0}},
+    {~(uint64_t)0, 14, 0, {0, 0, 0, 0, 0}},
+    {0x0000800040002567u, 0, 0, {2, 51, 62, 0, 2}},
+    {0x0000800040005565u, 0, 0, {2, 49, 50, 0, 0}},
+    {0x0000800040000565u, 0, 0, {2, 50, 51, 0, 1}},
 };
 #define ROWS (sizeof rows / sizeof rows[0])
 
@@ -34,7 +37,7 @@ static const uint64_t too_large[] = {(uint64_t)1 << 48, (uint64_t)1 << 55, (uint
 static uint8_t fill;             // 0 or 255
 static int null_when_empty;      // NULL for a length of 0, else an address
 static size_t shift;             // how far a buffer is off its alignment
-static struct lent in, out, out2;
+static struct lent in, out, out2, out3;
 static unsigned long calls, refusals[16];
 
 static void fresh(struct lent *l)
@@ -59,14 +62,14 @@ static void settle(const char *call, uint64_t got, uint64_t want)
         fail("customer: %s returned %llu and not %llu", call, (shown)got, (shown)want);
     if (memcmp(in.now, in.due, WHOLE))
         fail("customer: %s wrote to its input", call);
-    if (memcmp(out.now, out.due, WHOLE) || memcmp(out2.now, out2.due, WHOLE))
+    if (memcmp(out.now, out.due, WHOLE) || memcmp(out2.now, out2.due, WHOLE) || memcmp(out3.now, out3.due, WHOLE))
         fail("customer: %s left other bytes than are due (answer %llu)", call, (shown)got);
     calls++;
     if (want < 16)
         refusals[want]++;
 }
 
-static void all_fresh(void) { fresh(&in), fresh(&out), fresh(&out2); }
+static void all_fresh(void) { fresh(&in), fresh(&out), fresh(&out2), fresh(&out3); }
 
 static void frame_make(void)
 {
@@ -88,7 +91,7 @@ static void frame_read(void)
             uint64_t want = len < LKS_ANSWER_BYTES ? 12 : rows[i].refusal;
             if (want == 0) {
                 owe(&out, 0, rows[i].data);
-                memcpy(out.due + EDGE + shift + 8, rows[i].rest, 4);
+                memcpy(out.due + EDGE + shift + 8, rows[i].rest, sizeof rows[i].rest);
             }
             settle("lks_frame_read", lks_frame_read(rows[i].frame, lend(&out, len), len), want);
         }
@@ -118,9 +121,10 @@ static void frames_make_all(void)
         }
 }
 
-static void frames_read(size_t frames_len, size_t data_len, size_t verdicts_len, size_t from)
+static void frames_read(size_t frames_len, size_t data_len, size_t verdicts_len, size_t checks_len, size_t from)
 {
-    uint64_t want = frames_len % 8 || data_len % 8 || data_len < frames_len || verdicts_len < frames_len / 8 ? 12 : 0;
+    int lists_fit = verdicts_len >= frames_len / 8 && checks_len >= frames_len / 8;
+    uint64_t want = frames_len % 8 || data_len % 8 || data_len < frames_len || !lists_fit ? 12 : 0;
     all_fresh();
     for (size_t i = 0; i < frames_len / 8; i++) {
         const struct row *r = &rows[(from + i) % ROWS];
@@ -128,10 +132,12 @@ static void frames_read(size_t frames_len, size_t data_len, size_t verdicts_len,
         if (want == 0) {
             owe(&out, i * 8, r->data);
             out2.due[EDGE + shift + i] = r->refusal ? (uint8_t)r->refusal : r->rest[0];
+            out3.due[EDGE + shift + i] = r->rest[4];
         }
     }
     settle("lks_frames_read",
-           lks_frames_read(lend(&in, frames_len), frames_len, lend(&out, data_len), data_len, lend(&out2, verdicts_len), verdicts_len),
+           lks_frames_read(lend(&in, frames_len), frames_len, lend(&out, data_len), data_len, lend(&out2, verdicts_len), verdicts_len,
+                           lend(&out3, checks_len), checks_len),
            want);
 }
 
@@ -140,10 +146,11 @@ static void frames_read_all(void)
     for (size_t frames_len = 0; frames_len <= 33; frames_len++)
         for (size_t data_len = 0; data_len <= 41; data_len++)
             for (size_t verdicts_len = 0; verdicts_len <= 6; verdicts_len++)
-                frames_read(frames_len, data_len, verdicts_len, frames_len + data_len / 8 + verdicts_len);
+                for (size_t checks_len = 0; checks_len <= frames_len / 8 + 1; checks_len++)
+                    frames_read(frames_len, data_len, verdicts_len, checks_len, frames_len + data_len / 8 + verdicts_len + checks_len);
     for (size_t from = 0; from < ROWS; from++)
         for (size_t n = 0; n < 6; n++)
-            frames_read(n * 8, n * 8, n, from);
+            frames_read(n * 8, n * 8, n, n, from);
 }
 
 int main(void)

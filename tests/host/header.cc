@@ -3,8 +3,8 @@
 #include "../plain.h"
 #include "../../include/lakshrumov.h"
 
-#if LKS_VERSION / 10000 != 1
-#error this test is of major version 1
+#if LKS_VERSION / 10000 != 2
+#error this test is of major version 2
 #endif
 
 static uint8_t room[8 * LKS_MOST_FRAMES];
@@ -12,20 +12,23 @@ static uint8_t room[8 * LKS_MOST_FRAMES];
 static uint64_t (*frame_make)(uint64_t) = lks_frame_make;
 static uint64_t (*frame_read)(uint64_t, uint8_t *, size_t) = lks_frame_read;
 static uint64_t (*frames_make)(const uint8_t *, size_t, uint8_t *, size_t) = lks_frames_make;
-static uint64_t (*frames_read)(const uint8_t *, size_t, uint8_t *, size_t, uint8_t *, size_t) = lks_frames_read;
+static uint64_t (*frames_read)(const uint8_t *, size_t, uint8_t *, size_t, uint8_t *, size_t, uint8_t *, size_t) = lks_frames_read;
 static uint64_t (*capture_write)(uint32_t, const uint8_t *, size_t, const uint8_t *, size_t, uint8_t *, size_t) = lks_capture_write;
 static uint64_t (*capture_head)(const uint8_t *, size_t, uint8_t *, size_t) = lks_capture_head;
 static uint64_t (*capture_read)(const uint8_t *, size_t, uint8_t *, size_t, uint8_t *, size_t) = lks_capture_read;
 
 int main()
 {
-    uint8_t data[16] = {0}, frames[16], back[16], verdicts[2], answer[LKS_ANSWER_BYTES];
+    uint8_t data[16] = {0}, frames[16], back[16], verdicts[2], checks[2], answer[LKS_ANSWER_BYTES];
     data[7] = 1;
     if (frames_make(data, 16, frames, 16) != 0 || number_at(frames) != frame_make(1) || number_at(frames + 8) != frame_make(0))
         fail("header: frames made from C++");
-    if (frames_read(frames, 16, back, 16, verdicts, 2) != 0 || memcmp(data, back, 16) != 0 || verdicts[0] != 0 || verdicts[1] != 0)
+    frames[15] ^= 6; // positions 61 and 62
+    if (frames_read(frames, 16, back, 16, verdicts, 2, checks, 2) != 0 || memcmp(data, back, 16) != 0)
         fail("header: frames read from C++");
-    if (frame_read(frame_make(1), answer, sizeof answer) != 0 || number_at(answer) != 1)
+    if (verdicts[0] != 0 || verdicts[1] != 2 || checks[0] != 0 || checks[1] != 2)
+        fail("header: flips of frames read from C++");
+    if (frame_read(number_at(frames + 8), answer, sizeof answer) != 0 || number_at(answer) != 0 || answer[12] != 2)
         fail("header: a frame read from C++");
     uint8_t file[16 + 1 + LKS_TRAILER_BYTES], label[LKS_CAPTURE_ANSWER_BYTES], again[LKS_CAPTURE_ANSWER_BYTES];
     if (capture_write(7, frames, 16, data, 1, file, sizeof file) != sizeof file)

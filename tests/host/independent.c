@@ -77,9 +77,11 @@ static int locate(unsigned s1, unsigned s3, unsigned place[2])
 
 static int is_run_bit(int position) { return position == 16 || position == 33 || position == 50; }
 
+static int is_check_bit(unsigned position) { return position >= 51 && position <= 62; }
+
 static struct reading refused(unsigned number)
 {
-    struct reading r = {number, 0, {255, 255}, 0};
+    struct reading r = {number, 0, {255, 255}, 0, 0};
     return r;
 }
 
@@ -101,6 +103,8 @@ struct reading independent_read(uint64_t frame)
             return refused(14);
     }
     r.verdict = (unsigned)flips;
+    for (int i = 0; i < flips; i++)
+        r.check_flips += is_check_bit(r.place[i]);
     r.pad_wrong = bits[63] == bits[62];
     return r;
 }

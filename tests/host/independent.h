@@ -3,12 +3,13 @@
 #define INDEPENDENT_H
 #include "../plain.h"
 
-// verdict: 0, 1 or 2 flips, or the refusals 13 and 14, which leave data and pad_wrong 0 and no place.
+// verdict: 0, 1 or 2 flips, or the refusals 13 and 14, which leave data, pad_wrong and check_flips 0 and no place.
 struct reading {
     unsigned verdict;
     uint64_t data;
     unsigned place[2]; // the lower first; 255 where there is none
     unsigned pad_wrong;
+    unsigned check_flips; // how many of the places are check bits
 };
 
 uint64_t independent_make(uint64_t data); // the frame, or 11

@@ -3,32 +3,51 @@
 
 // ---- the paper's rows
 
-static void read_row(uint64_t frame, uint64_t data, unsigned flips, unsigned first, unsigned second, unsigned pad_wrong)
+static void read_row(uint64_t frame, unsigned flips, unsigned first, unsigned second, unsigned pad_wrong, unsigned check_flips)
 {
     uint8_t answer[LKS_ANSWER_BYTES];
     hold("row: refusal", lks_frame_read(frame, answer, sizeof answer), 0);
-    hold("row: data", number_at(answer), data);
-    hold("row: flips, places and pad", number_at(answer + 4) & 0xFFFFFFFF,
-         (uint64_t)flips << 24 | (uint64_t)first << 16 | (uint64_t)second << 8 | pad_wrong);
+    hold("row: data", number_at(answer), 0);
+    hold("row: flips", answer[8], flips);
+    hold("row: first place", answer[9], first);
+    hold("row: second place", answer[10], second);
+    hold("row: pad", answer[11], pad_wrong);
+    hold("row: check flips", answer[12], check_flips);
 }
 
 static void rows(void)
 {
     static const uint64_t listing[3] = {0x0000800040003565, 0x8000800040003567, 0x000080004000356B};
-    uint8_t frames[24], data[24], verdicts[3];
+    uint8_t frames[24], data[24], verdicts[3], checks[3];
     hold("row: data 0", lks_frame_make(0), 0x0000800040003565);
     hold("row: data 2^48 - 1", lks_frame_make(0xFFFFFFFFFFFF), 0xFFFF7FFFBFFFCA9A);
     hold("row 11: data 2^48", lks_frame_make(0x1000000000000), 11);
-    read_row(0x8000800040003567, 0, 2, 0, 62, 0);
-    read_row(0x0000800040003564, 0, 0, 255, 255, 1);
+    read_row(0x8000800040003567, 2, 0, 62, 0, 1);
+    read_row(0x0000800040003564, 0, 255, 255, 1, 0);
     hold("row: 60, 61, 62 flipped", verdict(0x000080004000356B), 13);
     hold("row: 64 zeros", verdict(0), 14);
     hold("row: 64 ones", verdict(~(uint64_t)0), 14);
     for (int i = 0; i < 3; i++)
         put_number(frames + 8 * i, listing[i]);
-    hold("the listing's 24 bytes", lks_frames_read(frames, 24, data, 24, verdicts, 3), 0);
+    hold("the listing's 24 bytes", lks_frames_read(frames, 24, data, 24, verdicts, 3, checks, 3), 0);
     hold("the listing's verdicts", (uint64_t)verdicts[0] << 16 | (uint64_t)verdicts[1] << 8 | verdicts[2], 0x00020D);
+    hold("the listing's check flips", (uint64_t)checks[0] << 16 | (uint64_t)checks[1] << 8 | checks[2], 0x000100);
     print_held("rows: the paper's frame rows");
+}
+
+// Data 0 with flips about the first and the last check bit, 51 and 62.
+static void check_flips(void)
+{
+    read_row(0x0000800040005565, 2, 49, 50, 0, 0);
+    read_row(0x0000800040001565, 1, 50, 255, 0, 0);
+    read_row(0x0000800040000565, 2, 50, 51, 0, 1);
+    read_row(0x0000800040002565, 1, 51, 255, 0, 1);
+    read_row(0x0000800040002567, 2, 51, 62, 0, 2);
+    read_row(0x0000800040003567, 1, 62, 255, 0, 1);
+    read_row(0x0000800040003566, 1, 62, 255, 1, 1);
+    read_row(0x0000800040003569, 2, 60, 61, 0, 2);
+    read_row(0x0000800040003568, 2, 60, 61, 1, 2);
+    print_held("rows: flips in check bits and beside them");
 }
 
 // ---- the design page's facts
@@ -79,6 +98,7 @@ static void traps(void)
 int main(void)
 {
     rows();
+    check_flips();
     remainders();
     three_flips();
     traps();

@@ -4,14 +4,14 @@
 #include "../plain.h"
 #include "../../include/lakshrumov.h"
 
-enum { AREA = 1 << 17, MOST = 512, PAINT = 0x5A, ARGUMENTS = 7 };
+enum { AREA = 1 << 17, MOST = 512, PAINT = 0x5A, ARGUMENTS = 8 };
 enum { MOST_COUNT = 8189, MOST_NOTES = 1512 }; // of frames for which a file has room, and of notes behind 8,000 of them
 
-static uint8_t area[AREA + 16] __attribute__((aligned(16))); // and what its caller lays above it: the seventh argument
-static uint8_t in[8 * MOST], out[8 * MOST], verdicts[MOST];
+static uint8_t area[AREA + 16] __attribute__((aligned(16))); // and what its caller lays above it: two arguments
+static uint8_t in[8 * MOST], out[8 * MOST], verdicts[MOST], checks[MOST];
 static uint8_t frames[8 * (MOST_COUNT + 1)], file[8 * MOST_COUNT + MOST_NOTES + LKS_TRAILER_BYTES];
 
-// Calls the entry with seven arguments, the last of them at the top, with its stack below that. Returns its answer.
+// Calls the entry with eight arguments, the last two of them at the top, with its stack below that. Returns its answer.
 uint64_t on_stack(void (*entry)(void), uint8_t *top, const uint64_t arguments[ARGUMENTS]);
 __asm__(".pushsection .text\n"
         "on_stack:\n"
@@ -28,6 +28,8 @@ __asm__(".pushsection .text\n"
         "    mov 40(%r10), %r9\n"
         "    mov 48(%r10), %r11\n"
         "    mov %r11, (%rsp)\n"
+        "    mov 56(%r10), %r11\n"
+        "    mov %r11, 8(%rsp)\n"
         "    call *%rax\n"
         "    mov %rbx, %rsp\n"
         "    pop %rbx\n"
@@ -80,15 +82,27 @@ static void single(void)
 
 static const size_t lengths[] = {0, 8, 15, 16, 8 * MOST}; // 15: refused
 
+static void make_list(size_t len)
+{
+    called((void (*)(void))lks_frames_make, (uint64_t[ARGUMENTS]){(uint64_t)in, len, (uint64_t)out, sizeof out});
+}
+
+static void read_list(size_t len)
+{
+    uint64_t answer = called((void (*)(void))lks_frames_read, (uint64_t[ARGUMENTS]){(uint64_t)in, len, (uint64_t)out, sizeof out,
+                                                              (uint64_t)verdicts, sizeof verdicts, (uint64_t)checks, sizeof checks});
+    if (answer != (len % 8 ? LKS_LENGTH : 0))
+        fail("stack: lks_frames_read returned %llu", (shown)answer);
+}
+
 // Lists of `kinds` numbers in turn, from each of them on.
-static void lists(const uint64_t *numbers, size_t kinds, void (*entry)(void), int reads)
+static void lists(const uint64_t *numbers, size_t kinds, void (*call)(size_t len))
 {
     for (size_t from = 0; from < kinds; from++) {
         for (size_t i = 0; i < MOST; i++)
             put_number(in + 8 * i, numbers[(from + i) % kinds]);
         for (size_t k = 0; k < sizeof lengths / sizeof lengths[0]; k++)
-            called(entry, (uint64_t[ARGUMENTS]){(uint64_t)in, lengths[k], (uint64_t)out, sizeof out, reads ? (uint64_t)verdicts : 0,
-                                        reads ? sizeof verdicts : 0});
+            call(lengths[k]);
     }
 }
 
@@ -139,10 +153,10 @@ static void captures(const char *name, void (*call)(size_t count, size_t notes, 
 int main(void)
 {
     single();
-    lists(some_data, WORDS - 1, (void (*)(void))lks_frames_make, 0);
-    lists(some_data, WORDS, (void (*)(void))lks_frames_make, 0);
+    lists(some_data, WORDS - 1, make_list);
+    lists(some_data, WORDS, make_list);
     row("lks_frames_make");
-    lists(some_frames, FRAMES, (void (*)(void))lks_frames_read, 1);
+    lists(some_frames, FRAMES, read_list);
     row("lks_frames_read");
     captures("lks_capture_write", write_capture);
     captures("lks_capture_head", head_capture);

@@ -2,7 +2,7 @@
 // the code over GF(64) (syndromes S1 and S3, Peterson's equations, a search of all 63 places): no table of remainders, no table of
 // corrections and nothing of the proved crates.
 //
-// usage: count                       counts standard input and prints the eight lines of the listing
+// usage: count                       counts standard input and prints the nine lines of the listing
 //        count bytes SEED N          writes N bytes of frames: lawful ones with none to four flips, noise, still lines
 //        count triples               writes the frame of data 0 with each three of its 63 positions flipped
 //        count drip                  hands standard input on, a byte a write
@@ -10,7 +10,7 @@
 
 static int count(void)
 {
-    struct figures f = {0, {0}, 0};
+    struct figures f = {0, {0}, 0, 0};
     uint8_t frame[8];
     size_t have = 0;
     field();

@@ -55,6 +55,8 @@ static int solve(int s1, int s3, int place[2])
     return found == 2 ? 2 : -1;
 }
 
+static int is_check_bit(int position) { return position >= 51 && position <= 62; }
+
 void one_frame(const uint8_t bytes[8], struct figures *f)
 {
     int bits[64], place[2];
@@ -73,6 +75,8 @@ void one_frame(const uint8_t bytes[8], struct figures *f)
         return;
     }
     f->verdict[flips]++;
+    for (int i = 0; i < flips; i++)
+        f->check_flips += is_check_bit(place[i]);
     if (bits[63] == bits[62])
         f->pad_wrong++;
 }

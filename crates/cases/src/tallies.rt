@@ -1,4 +1,5 @@
 // The tally's answers, and those of the lane that feeds it.
+use crate::fields;
 use crate::say;
 use lane::Counted;
 use tally::Added;
@@ -12,26 +13,32 @@ fn handed_in(head: &[u8]) -> Tally {
         no_word: octets::number(head, 9),
         run_broken: octets::number(head, 10),
         pad_wrong: octets::number(head, 11),
+        check_flips: octets::number(head, 12),
     }
 }
 
 fn tallied(t: Tally) {
     say::three(t.clean, t.one, t.two);
     say::three(t.no_word, t.run_broken, t.pad_wrong);
+    say::number(t.check_flips);
 }
 
-// One verdict and its flag go by the call for one.
-fn added(t: Tally, verdicts: &[u8], pads: &[u8]) -> Added {
+// One verdict with one flag and one number of check flips goes by the call for one.
+fn added<'a>(t: Tally, verdicts: &[u8], pads: &'a [u8], checks: &'a [u8]) -> Added {
     if verdicts.len() == 1 {
         if pads.len() == 1 {
-            return t.add(verdicts[0], pads[0]);
+            if checks.len() == 1 {
+                return t.add(verdicts[0], pads[0], checks[0]);
+            }
         }
     }
-    t.add_list(verdicts, pads)
+    t.add_list(verdicts, pads, checks)
 }
 
-pub(crate) fn add(head: &[u8], verdicts: &[u8], pads: &[u8]) {
-    match added(handed_in(head), verdicts, pads) {
+// The flags are the front of the rest, the check flips what is behind them.
+pub(crate) fn add(head: &[u8], verdicts: &[u8], rest: &[u8]) {
+    let h = fields::within(head, 13, rest);
+    match added(handed_in(head), verdicts, &rest[..h], &rest[h..]) {
         Added::Next(t) => tallied(t),
         Added::Refused(n) => say::refused(n),
     }

@@ -30,7 +30,7 @@ use Rattle.bch.proofs.Built.{table}
 use Rattle.frame.specs.Word.{wordOf, padOf, RunsRight, Lawful, dataOf}
 use Rattle.frame.specs.Sums.{runSums}
 use Rattle.frame.proofs.Sums.{all-right}
-use Rattle.decoding.specs.Found.{Found, flag}
+use Rattle.decoding.specs.Found.{Found, flag, checkFlips}
 use Rattle.decoding.specs.Reads.{ReadAs, NothingNear, BrokenNear, Reads}
 use Rattle.decoding.specs.Claims.{SomeAnswer, OneAnswer, OneWord}
 use Rattle.decoding.specs.Claims.{readOf}
@@ -44,14 +44,20 @@ near r = subst (λ (n : ℕ). n ≤ 2) (sym (ap length (r .flips))) (r .few)
 
 -- a lawful word within two flips is read
 pub read-of : (f w : ℕ) → Lawful w → distance w (wordOf f) ≤ 2 → Reads f (gives (readOf f w))
-read-of f w l k = record { sent = w; lawful = l; flips = refl; few = k; carries = refl; padded = refl }
+read-of f w l k = record { sent = w; lawful = l; flips = refl; few = k; counted = refl; carries = refl; padded = refl }
 
 -- the word of a frame, with the places of an entry flipped
 abbrev pub mended : ℕ → ℕ → ℕ
 mended f e = bitXor (wordOf f) (mask e)
 
 abbrev pub mendedAs : ℕ → ℕ → Found
-mendedAs f e = record { «data» = dataOf (mended f e); places = places e; pad = flag (eqb (padOf f) (position (mended f e) 62)) }
+mendedAs f e =
+    record {
+      «data» = dataOf (mended f e);
+      places = places e;
+      checks = checkFlips (places e);
+      pad = flag (eqb (padOf f) (position (mended f e) 62));
+    }
 
 -- what the entry of the remainder says of a frame
 module _ (f e : ℕ) (h : f < 2 ^ 64) (t : Entry (rem 63 (wordOf f)) e) where
@@ -62,7 +68,15 @@ module _ (f e : ℕ) (h : f < 2 ^ 64) (t : Entry (rem 63 (wordOf f)) e) where
     pub a-word : RunsRight (mended f e) → Reads f (gives (mendedAs f e))
     a-word r =
         let m = bch.mended (wordOf f) (half f h) e t n in
-        record { sent = mended f e; lawful = record { code = m .0; runs = r }; flips = m .1; few = places-short e; carries = refl; padded = refl }
+        record {
+          sent = mended f e;
+          lawful = record { code = m .0; runs = r };
+          flips = m .1;
+          few = places-short e;
+          counted = refl;
+          carries = refl;
+          padded = refl;
+        }
 
     pub run-broken : (RunsRight (mended f e) → ⊥) → Reads f (refused 14)
     run-broken b =
@@ -77,13 +91,14 @@ none-differ w = shown w w 4095 (lit< tt) tt (xor-self w)
 -- a code word as it came
 module _ (f : ℕ) (h : f < 2 ^ 64) (z : rem 63 (wordOf f) ≡ 0) where
   pub received : RunsRight (wordOf f)
-      → Reads f (gives (record { «data» = dataOf (wordOf f); places = []; pad = flag (eqb (padOf f) (position (wordOf f) 62)) }))
+      → Reads f (gives (record { «data» = dataOf (wordOf f); places = []; checks = 0; pad = flag (eqb (padOf f) (position (wordOf f) 62)) }))
   received r =
       record {
         sent = wordOf f;
         lawful = record { code = is-divisible 51 (wordOf f) (half f h) z; runs = r };
         flips = none-differ (wordOf f);
         few = lit≤ tt;
+        counted = refl;
         carries = refl;
         padded = refl;
       }
@@ -131,16 +146,18 @@ pub beyond : (n : ℕ) → n ≤ 2 → 2 < n → ⊥
 beyond n a b = omega arith
 
 -- what is read, field by field
-same-found : (a b : Found) → a .«data» ≡ b .«data» → a .places ≡ b .places → a .pad ≡ b .pad → a ≡ b
-same-found a b p q r = λ i. record { «data» = p i; places = q i; pad = r i }
+same-found : (a b : Found) → a .«data» ≡ b .«data» → a .places ≡ b .places → a .checks ≡ b .checks → a .pad ≡ b .pad → a ≡ b
+same-found a b p q r s = λ i. record { «data» = p i; places = q i; checks = r i; pad = s i }
 
 module _ (f : ℕ) (h : f < 2 ^ 64) where
   same-read : (a b : Found) → ReadAs f a → ReadAs f b → a ≡ b
   same-read a b r s =
       let e : r .sent ≡ s .sent = one-word f h (r .sent) (s .sent) (r .lawful .code) (s .lawful .code) (near r) (near s) in
+      let p : a .places ≡ b .places = sym (r .flips) ∙ ap (λ (w : ℕ). differences w (wordOf f)) e ∙ s .flips in
       same-found a b
       (r .carries ∙ ap dataOf e ∙ sym (s .carries))
-      (sym (r .flips) ∙ ap (λ (w : ℕ). differences w (wordOf f)) e ∙ s .flips)
+      p
+      (r .counted ∙ ap checkFlips p ∙ sym (s .counted))
       (r .padded ∙ ap (λ (w : ℕ). flag (eqb (padOf f) (position w 62))) e ∙ sym (s .padded))
 
   read-or-nothing : {a : Found} → ReadAs f a → NothingNear f → ⊥

@@ -3,13 +3,15 @@
 -- │ nearest …    │ the claims of specs/Claims.antt by these names                  │
 -- └──────────────┴─────────────────────────────────────────────────────────────────┘
 use mathlib.Core.Path.{_≡_, refl, sym, ap, _∙_, subst}
+use mathlib.Core.Bool.{Bool, true, false, cond, _&&_, and-false}
+use mathlib.Core.List.{List, [], _∷_}
 use mathlib.Core.Logic.{inl, inr}
-use Prim.Native.Nat.{ℕ, _-_, _^_, _<_, _≤_}
+use Prim.Native.Nat.{ℕ, _+_, _-_, _^_, _<_, _≤_}
 use native.Mathlib.Decide.{decLe}
 use native.Mathlib.Omega.{arith}
-use lib.Dec.{lit<, lit≤}
+use lib.Dec.{ltb, leb, lit<, lit≤}
 use lib.ListN.{length}
-use borrow.Author.Tests.{ne-eqb}
+use borrow.Author.Tests.{ne-eqb, lt-ltb, le-ltb, leb-true, leb-false}
 use Rattle.paper.specs.Answer.{Answer, gives, refused}
 use Rattle.paper.proofs.Answer.{never-both}
 use Rattle.poly.specs.Poly.{rem}
@@ -18,10 +20,10 @@ use Rattle.bch.specs.Corrections.{places}
 use Rattle.bch.proofs.Nearest as bch
 use Rattle.bch.proofs.FiveApart.{five-apart, triangle, differences-sym}
 use Rattle.frame.specs.Word.{wordOf, padOf, RunsRight, Lawful, dataOf}
-use Rattle.decoding.specs.Found.{Found, flag}
+use Rattle.decoding.specs.Found.{Found, flag, isCheck, checkFlips}
 use Rattle.decoding.specs.Reads.{NothingNear, BrokenNear, Reads}
 use Rattle.decoding.specs.Claims.{ReadsBack, Nearest, Only13, Only14, StillLine}
-use Rattle.decoding.specs.Claims.{readOf, OnlyRead, OnlyRefused, SendersData, Misread}
+use Rattle.decoding.specs.Claims.{readOf, OnlyRead, OnlyRefused, CheckBits, FewChecks, SendersData, Misread}
 use Rattle.decoding.proofs.Demands.{half, near, read-of, received-broken, one-answer, beyond, none-differ}
 
 pub nearest : Nearest
@@ -61,6 +63,29 @@ only-refused f h a r = (
     none (gives a) r q = absurd (beyond _ (near r) (q (r .sent) (r .lawful)))
     none (refused n) r q = (n, refl)
 
+pub check-bits : CheckBits
+check-bits p = by (leb 51 p) (leb p 62) refl refl
+  where
+    by : (s t : Bool) → leb 51 p ≡ s → leb p 62 ≡ t → s && t ≡ ltb p 63 && ltb (62 - p) 12
+    by true true e f =
+        let h = leb-true 51 p e in
+        let k = leb-true p 62 f in
+        simp (lt-ltb p 63 (omega arith), lt-ltb (62 - p) 12 (omega arith))
+    by s false e f = let k = leb-false p 62 f in simp (le-ltb p 63 (omega arith), and-false)
+    by false true e f = let h = leb-false 51 p e in simp (le-ltb (62 - p) 12 (omega arith), and-false)
+
+once-few : (b : Bool) → cond b 1 0 ≤ 1
+once-few true = omega arith
+once-few false = omega arith
+
+-- each place is one check flip at most
+among : (ps : List ℕ) → checkFlips ps ≤ length ps
+among [] = omega arith
+among (p ∷ ps) = omega (arith, once-few (isCheck p), among ps)
+
+pub few-checks : FewChecks
+few-checks f r a = subst (λ (n : ℕ). n ≤ length (r .places)) (sym (a .counted)) (among (r .places))
+
 pub senders-data : SendersData
 senders-data d f g m h k a r = (readOf g (wordOf f), only-read g h a r (wordOf f) (m .lawful) k, m .carries, refl)
 
@@ -81,6 +106,7 @@ reads-back d f m =
       lawful = m .lawful;
       flips = none-differ (wordOf f);
       few = lit≤ tt;
+      counted = refl;
       carries = sym (m .carries);
       padded = sym (ap flag (ne-eqb (padOf f) (position (wordOf f) 62) (λ e. absurd (apart (position (wordOf f) 62) (sym e ∙ m .pad)))));
     }

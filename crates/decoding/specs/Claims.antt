@@ -12,6 +12,9 @@
 -- │ OnlyRead    │ where a lawful word is within two flips, its data and exactly    │
 -- │             │ the places in which it differs are answered                      │
 -- │ OnlyRefused │ a refusal is answered exactly where no lawful word is            │
+-- │ CheckBits   │ the check bits are the positions that stand for the powers       │
+-- │             │ below x^12, the degree of g                                      │
+-- │ FewChecks   │ the check flips are at most the flips                            │
 -- │ SendersData │ up to two flips of a made frame, in its first 63 bits, are read  │
 -- │             │ as its data and those places                                     │
 -- │ Misread     │ a frame read as other data than was sent had five flips or       │
@@ -19,19 +22,20 @@
 -- │ StillLine   │ 64 zeros and 64 ones are refused, with 14                        │
 -- └─────────────┴──────────────────────────────────────────────────────────────────┘
 use mathlib.Core.Path.{_≡_}
+use mathlib.Core.Bool.{_&&_}
 use mathlib.Core.List.{[]}
 use Prim.Native.Nat.{ℕ, _+_, _-_, _^_, _<_, _≤_}
-use lib.Dec.{eqb}
+use lib.Dec.{eqb, ltb}
 use lib.ListN.{length}
 use Rattle.paper.specs.Numbers.{noWord, runBroken}
 use Rattle.paper.specs.Answer.{Answer, gives, refused}
 use Rattle.bch.specs.Code.{CodeWord, position, differences, distance}
 use Rattle.frame.specs.Word.{wordOf, padOf, dataOf, Lawful, FrameOf}
-use Rattle.decoding.specs.Found.{Found, flag}
+use Rattle.decoding.specs.Found.{Found, flag, isCheck, checkFlips}
 use Rattle.decoding.specs.Reads.{ReadAs, NothingNear, BrokenNear, Reads}
 
 abbrev pub ReadsBack : Type 0
-ReadsBack = (d f : ℕ) → FrameOf d f → Reads f (gives (record { «data» = d; places = []; pad = 0 }))
+ReadsBack = (d f : ℕ) → FrameOf d f → Reads f (gives (record { «data» = d; places = []; checks = 0; pad = 0 }))
 
 -- an answer to each 64 bits, and one only
 abbrev pub SomeAnswer : Type 0
@@ -58,7 +62,13 @@ Only14 = (f : ℕ) → f < 2 ^ 64 → (a : Answer Found) → Reads f a
     → (BrokenNear f → a ≡ refused runBroken) × (a ≡ refused runBroken → BrokenNear f)
 
 abbrev pub readOf : ℕ → ℕ → Found
-readOf f w = record { «data» = dataOf w; places = differences w (wordOf f); pad = flag (eqb (padOf f) (position w 62)) }
+readOf f w =
+    record {
+      «data» = dataOf w;
+      places = differences w (wordOf f);
+      checks = checkFlips (differences w (wordOf f));
+      pad = flag (eqb (padOf f) (position w 62));
+    }
 
 abbrev pub OnlyRead : Type 0
 OnlyRead = (f : ℕ) → f < 2 ^ 64 → (a : Answer Found) → Reads f a → (w : ℕ) → Lawful w → distance w (wordOf f) ≤ 2
@@ -68,6 +78,12 @@ abbrev pub OnlyRefused : Type 0
 OnlyRefused = (f : ℕ) → f < 2 ^ 64 → (a : Answer Found) → Reads f a
     → (((w : ℕ) → Lawful w → 2 < distance w (wordOf f)) → (n : ℕ) × (a ≡ refused n))
     × ((n : ℕ) → a ≡ refused n → (w : ℕ) → Lawful w → 2 < distance w (wordOf f))
+
+abbrev pub CheckBits : Type 0
+CheckBits = (p : ℕ) → isCheck p ≡ ltb p 63 && ltb (62 - p) 12
+
+abbrev pub FewChecks : Type 0
+FewChecks = (f : ℕ) (r : Found) → Reads f (gives r) → r .checks ≤ length (r .places)
 
 -- what a good verdict is worth
 abbrev pub SendersData : Type 0

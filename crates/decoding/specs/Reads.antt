@@ -1,9 +1,9 @@
 -- Demand 3: what it is to read 64 received bits. Neither a table nor a division stands here.
 -- ┌─────────────────────┬──────────────────────────────────────────────────────────┐
 -- │ ReadAs f r          │ a lawful word differs from the first 63 bits in exactly  │
--- │                     │ the places of r, at most two; r has its data, and pad    │
--- │                     │ flag 1 where f's pad is not the opposite of its          │
--- │                     │ position 62                                              │
+-- │                     │ the places of r, at most two; r has its data, how many   │
+-- │                     │ of these places are check bits, and pad flag 1 where     │
+-- │                     │ f's pad is not the opposite of its position 62           │
 -- │ NothingNear f       │ every code word differs in more than two places          │
 -- │ BrokenNear f        │ a code word that differs in at most two places has a     │
 -- │                     │ wrong run bit                                            │
@@ -19,13 +19,14 @@ use Rattle.paper.specs.Numbers.{noWord, runBroken}
 use Rattle.paper.specs.Answer.{Answer, gives, refused}
 use Rattle.bch.specs.Code.{CodeWord, position, differences, distance}
 use Rattle.frame.specs.Word.{wordOf, padOf, RunsRight, Lawful, dataOf}
-use Rattle.decoding.specs.Found.{Found, flag}
+use Rattle.decoding.specs.Found.{Found, flag, checkFlips}
 
 pub record ReadAs (f : ℕ) (r : Found) : Type 0 where
   pub sent : ℕ
   pub lawful : Lawful sent
   pub flips : differences sent (wordOf f) ≡ r .places
   pub few : length (r .places) ≤ 2
+  pub counted : r .checks ≡ checkFlips (r .places)
   pub carries : r .«data» ≡ dataOf sent
   pub padded : r .pad ≡ flag (eqb (padOf f) (position sent 62))
 

@@ -42,7 +42,7 @@ fn written(text: &[u8]) -> bool {
 fn print(u: Totals) -> i32
     ensures { λ r. ⌜ Status r ⌝ }
 {
-    let mut text = [0u8; 256];
+    let mut text = [0u8; 512];
     let n = printout::text(u, &mut text);
     if !written(&text[..n]) {
         return cannot(b"listing: cannot write ", b"the whole listing");
@@ -57,7 +57,7 @@ pub(crate) fn listing_of(fd: i32, name: &[u8]) -> i32
         State::Done(u) => print(u),
         State::More(_) => say(b"listing: the input has no end\n"),
         State::Unread => cannot(b"listing: cannot read ", name),
-        State::Refused => say(b"listing: more than 2^53 - 1 frames\n"),
+        State::Refused => say(b"listing: more than 2^53 - 1 frames or check flips\n"),
     }
 }
 

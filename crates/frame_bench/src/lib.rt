@@ -29,10 +29,16 @@ pub extern "C" fn bench_make_list(data: &[u64], frames: &mut [u64]) -> u8
 }
 
 #[no_mangle]
-pub extern "C" fn bench_read_list(frames: &[u64], data: &mut [u64], verdicts: &mut [u8]) -> u8
-    ensures { λ n. ⌜ ReadsList (now (frames .entry)) («data» .entry to «data» .exit) (verdicts .entry to verdicts .exit) (numbered n) ⌝ }
+pub extern "C" fn bench_read_list(
+    frames: &[u64],
+    data: &mut [u64],
+    verdicts: &mut [u8],
+    checks: &mut [u8],
+) -> u8
+    ensures { λ n. ⌜ ReadsList (now (frames .entry)) («data» .entry to «data» .exit) (verdicts .entry to verdicts .exit)
+        (checks .entry to checks .exit) (numbered n) ⌝ }
 {
-    paper::number_of(reader::read_list(frames, data, verdicts))
+    paper::number_of(reader::read_list(frames, data, verdicts, checks))
 }
 
 #[no_mangle]
@@ -41,11 +47,12 @@ pub extern "C" fn bench_read_list_pads(
     data: &mut [u64],
     verdicts: &mut [u8],
     pads: &mut [u8],
+    checks: &mut [u8],
 ) -> u8
     ensures { λ n. ⌜ ReadsPads (now (frames .entry)) («data» .entry to «data» .exit) (verdicts .entry to verdicts .exit)
-        (pads .entry to pads .exit) (numbered n) ⌝ }
+        (pads .entry to pads .exit) (checks .entry to checks .exit) (numbered n) ⌝ }
 {
-    paper::number_of(reader::read_list_pads(frames, data, verdicts, pads))
+    paper::number_of(reader::read_list_pads(frames, data, verdicts, pads, checks))
 }
 
 fn length_of(f: Filed) -> u64

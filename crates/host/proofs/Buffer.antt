@@ -1,6 +1,6 @@
--- The answer buffer: twelve bytes, stored one after the other.
+-- The answer buffer: thirteen bytes, stored one after the other.
 -- ┌───────────────┬────────────────────────────────────────────────────────────────┐
--- │ twelve        │ a number and four bytes behind it                              │
+-- │ thirteen      │ a number and five bytes behind it                              │
 -- │ small         │ the places of a reading fit a byte                             │
 -- └───────────────┴────────────────────────────────────────────────────────────────┘
 use mathlib.Core.Path.{_≡_, refl, sym, ap, _∙_, subst}
@@ -23,22 +23,23 @@ use Rattle.reader.specs.declared.Word.{Word}
 use Rattle.reader.specs.declared.Reading.the-variants.{Lawful}
 use Rattle.host.specs.Entries.{Small}
 
-four-stores : (d : ℕ) (r : List ℕ) → 4 ≤ length r → (n a b p : ℕ)
-    → set (set (set (set (eight d ++ r) 8 n) 9 a) 10 b) 11 p ≡ eight d ++ (n ∷ a ∷ b ∷ p ∷ drop 4 r)
+five-stores : (d : ℕ) (r : List ℕ) → 5 ≤ length r → (n a b p k : ℕ)
+    → set (set (set (set (set (eight d ++ r) 8 n) 9 a) 10 b) 11 p) 12 k ≡ eight d ++ (n ∷ a ∷ b ∷ p ∷ k ∷ drop 5 r)
 unfolding eight inBytes
-four-stores d [] h n a b p = absurd (omega arith)
-four-stores d (x0 ∷ []) h n a b p = absurd (omega arith)
-four-stores d (x0 ∷ x1 ∷ []) h n a b p = absurd (omega arith)
-four-stores d (x0 ∷ x1 ∷ x2 ∷ []) h n a b p = absurd (omega arith)
-four-stores d (x0 ∷ x1 ∷ x2 ∷ x3 ∷ r) h n a b p = refl
+five-stores d [] h n a b p k = absurd (omega arith)
+five-stores d (x0 ∷ []) h n a b p k = absurd (omega arith)
+five-stores d (x0 ∷ x1 ∷ []) h n a b p k = absurd (omega arith)
+five-stores d (x0 ∷ x1 ∷ x2 ∷ []) h n a b p k = absurd (omega arith)
+five-stores d (x0 ∷ x1 ∷ x2 ∷ x3 ∷ []) h n a b p k = absurd (omega arith)
+five-stores d (x0 ∷ x1 ∷ x2 ∷ x3 ∷ x4 ∷ r) h n a b p k = refl
 
-pub twelve : (o o′ : List ℕ) (d n a b p : ℕ) → 12 ≤ length o → o′ ≡ stored o 0 d
-    → set (set (set (set o′ 8 n) 9 a) 10 b) 11 p ≡ eight d ++ (n ∷ a ∷ b ∷ p ∷ drop 12 o)
-twelve o o′ d n a b p h e =
-    ap (λ (l : List ℕ). set (set (set (set l 8 n) 9 a) 10 b) 11 p)
+pub thirteen : (o o′ : List ℕ) (d n a b p k : ℕ) → 13 ≤ length o → o′ ≡ stored o 0 d
+    → set (set (set (set (set o′ 8 n) 9 a) 10 b) 11 p) 12 k ≡ eight d ++ (n ∷ a ∷ b ∷ p ∷ k ∷ drop 13 o)
+thirteen o o′ d n a b p k h e =
+    ap (λ (l : List ℕ). set (set (set (set (set l 8 n) 9 a) 10 b) 11 p) 12 k)
     (e ∙ ap (λ (t : Bool). cond t (eight d ++ drop 8 o) o) (lt-ltb 0 (length o / 8) (omega arith)))
-    ∙ four-stores d (drop 8 o) (omega (arith, length-drop 8 o)) n a b p
-    ∙ ap (λ (l : List ℕ). eight d ++ (n ∷ a ∷ b ∷ p ∷ l)) (drop-drop 4 8 o)
+    ∙ five-stores d (drop 8 o) (omega (arith, length-drop 8 o)) n a b p k
+    ∙ ap (λ (l : List ℕ). eight d ++ (n ∷ a ∷ b ∷ p ∷ k ∷ l)) (drop-drop 5 8 o)
 
 rising : (p : Flips) → Rising 0 (placesOf p) → Small p
 rising Nowhere r = tt

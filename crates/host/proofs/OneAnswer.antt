@@ -41,5 +41,5 @@ one-made ds o o′ m n w p q =
     let r = one-made-bytes ds o o′ (numbered m) (numbered n) w p q in (numbered-one m n (r .0), r .1)
 
 pub one-read : OneRead
-one-read fs d d′ v v′ m n h x y p q =
-    let r = one-read-bytes fs d d′ v v′ (numbered m) (numbered n) h x y p q in (numbered-one m n (r .0), r .1, r .2)
+one-read fs d d′ v v′ c c′ m n h x y z p q =
+    let r = one-read-bytes fs d d′ v v′ c c′ (numbered m) (numbered n) h x y z p q in (numbered-one m n (r .0), r .1, r .2, r .3)

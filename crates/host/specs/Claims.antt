@@ -36,8 +36,10 @@ OneMade = (ds : List ℕ) (o o′ : Lent) (m n : ℕ) → o .was ≡ o′ .was �
     → (m ≡ n) × (o .is ≡ o′ .is)
 
 abbrev pub OneRead : Type 0
-OneRead = (fs : List ℕ) (d d′ v v′ : Lent) (m n : ℕ) → Octets fs → d .was ≡ d′ .was → v .was ≡ v′ .was
-    → ReadsBytes fs d v (numbered m) → ReadsBytes fs d′ v′ (numbered n) → (m ≡ n) × (d .is ≡ d′ .is) × (v .is ≡ v′ .is)
+OneRead = (fs : List ℕ) (d d′ v v′ c c′ : Lent) (m n : ℕ) → Octets fs
+    → d .was ≡ d′ .was → v .was ≡ v′ .was → c .was ≡ c′ .was
+    → ReadsBytes fs d v c (numbered m) → ReadsBytes fs d′ v′ c′ (numbered n)
+    → (m ≡ n) × (d .is ≡ d′ .is) × (v .is ≡ v′ .is) × (c .is ≡ c′ .is)
 
 abbrev pub OneFile : Type 0
 OneFile = (l : ℕ) (bs ns : List ℕ) (o o′ : Lent) (m n : ℕ) → o .was ≡ o′ .was → WritesFile l bs ns o m → WritesFile l bs ns o′ n

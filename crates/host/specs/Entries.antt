@@ -6,12 +6,13 @@
 -- │ Small p        │ the places fit a byte                                    │
 -- │ answerBytes    │ the bytes of an answer                                   │
 -- │ noPlace        │ 255, in a byte for a place where there is none           │
--- │ laidOut r a    │ the answer buffer a with a reading in its first twelve   │
+-- │ laidOut r a    │ the answer buffer a with a reading in its first thirteen │
 -- │                │ bytes: the data, highest byte first; how many flips;     │
--- │                │ their places, the lower first; the pad flag              │
+-- │                │ their places, the lower first; the pad flag; the check   │
+-- │                │ flips                                                    │
 -- │ laid b a       │ the buffer after an answer: as it was where refused      │
 -- │ Answered       │ the number and the buffer of the answer the reader owes  │
--- │ ReadsOut f o n │ `lks_frame_read`: 12 for a buffer under twelve bytes,    │
+-- │ ReadsOut f o n │ `lks_frame_read`: 12 for a buffer under thirteen bytes,  │
 -- │                │ else the number of the answer that the reader owes       │
 -- └────────────────┴──────────────────────────────────────────────────────────┘
 use mathlib.Core.Path.{_≡_}
@@ -44,7 +45,7 @@ Small (One a) = a < 256
 Small (Two a b) = (a < 256) × (b < 256)
 
 abbrev pub answerBytes : ℕ
-answerBytes = 12
+answerBytes = 13
 
 abbrev pub noPlace : ℕ
 noPlace = 255
@@ -52,7 +53,7 @@ noPlace = 255
 abbrev pub laidOut : Found → List ℕ → List ℕ
 laidOut r a =
     eight (r .«data»)
-    ++ (length (r .places) ∷ getD (r .places) 0 noPlace ∷ getD (r .places) 1 noPlace ∷ r .pad ∷ drop answerBytes a)
+    ++ (length (r .places) ∷ getD (r .places) 0 noPlace ∷ getD (r .places) 1 noPlace ∷ r .pad ∷ r .checks ∷ drop answerBytes a)
 
 abbrev pub laid : Answer Found → List ℕ → List ℕ
 laid (gives r) a = laidOut r a

@@ -25,7 +25,7 @@ use reader::Word;
 const UNFIT: u64 = paper::UNFIT as u64;
 
 // The bytes of an answer.
-const ANSWER_BYTES: usize = 12;
+const ANSWER_BYTES: usize = 13;
 
 // In a byte for a place where there is none.
 const NO_PLACE: u8 = 255;
@@ -83,7 +83,7 @@ fn flag_of(wrong: bool) -> u8
     if wrong { 1 } else { 0 }
 }
 
-// A reading in the twelve bytes of the answer.
+// A reading in the thirteen bytes of the answer.
 fn lay_out(answer: &mut [u8], w: Word)
     requires { ⌜ (answerBytes ≤ length (now answer)) × Small (w .flips) ⌝ }
     ensures { λ _. ⌜ now (answer .exit) ≡ laidOut (found w) (now (answer .entry)) ⌝ }
@@ -94,6 +94,7 @@ fn lay_out(answer: &mut [u8], w: Word)
     answer[9] = first_of(flips);
     answer[10] = second_of(flips);
     answer[11] = flag_of(w.pad_wrong);
+    answer[12] = w.check_flips;
 }
 
 #[no_mangle]
@@ -127,8 +128,14 @@ pub extern "C" fn lks_frames_make(data: &[u8], frames: &mut [u8]) -> u64
 }
 
 #[no_mangle]
-pub extern "C" fn lks_frames_read(frames: &[u8], data: &mut [u8], verdicts: &mut [u8]) -> u64
-    ensures { λ n. ⌜ ReadsBytes (now (frames .entry)) («data» .entry to «data» .exit) (verdicts .entry to verdicts .exit) (numbered n) ⌝ }
+pub extern "C" fn lks_frames_read(
+    frames: &[u8],
+    data: &mut [u8],
+    verdicts: &mut [u8],
+    checks: &mut [u8],
+) -> u64
+    ensures { λ n. ⌜ ReadsBytes (now (frames .entry)) («data» .entry to «data» .exit) (verdicts .entry to verdicts .exit)
+        (checks .entry to checks .exit) (numbered n) ⌝ }
 {
-    wide(paper::number_of(reader::read_bytes(frames, data, verdicts)))
+    wide(paper::number_of(reader::read_bytes(frames, data, verdicts, checks)))
 }

@@ -1,40 +1,42 @@
--- The verdicts and pad flags of the frames of bytes: there are some, only one list of each, and they join.
+-- What the tally is told of the frames of bytes: there is something, only one, it is known, and it joins.
 -- ┌───────────────┬────────────────────────────────────────────────────────────────┐
 -- │ one-seen      │ the statements of specs/Claims.antt by these names             │
 -- │ some-seen     │                                                                │
--- │ as-many       │ one verdict and one flag for each whole frame                  │
--- │ all-verdicts  │ and each a verdict byte                                        │
+-- │ seen-is-known │                                                                │
+-- │ as-many       │ one telling for each whole frame                               │
 -- │ seen-join     │ what is seen of joined bytes, where the first part is whole    │
 -- └───────────────┴────────────────────────────────────────────────────────────────┘
 use mathlib.Core.Path.{_≡_, refl, sym, ap, ap₂, _∙_, subst}
-use mathlib.Core.Bool.{Bool, true, _&&_}
+use mathlib.Core.Bool.{Bool, true, false, _&&_}
 use mathlib.Core.List.{List, [], _∷_, _++_, map}
 use mathlib.Core.Logic.{inl, inr}
 use Prim.Native.Nat.{ℕ, suc, _/_, _%_}
 use native.Mathlib.Nat.{zero-lt-suc}
 use native.Mathlib.Omega.{arith}
+use borrow.Author.Tests.{le-leb}
 use lib.ListN.{length, getD, length-map}
 use Rattle.paper.specs.Answer.{Answer, gives, refused}
 use Rattle.laws.specs.Lent.{Each, none, next}
 use Rattle.laws.proofs.Writing.{each-length, one-each}
 use Rattle.radix.specs.Octets.{numbersOf}
 use Rattle.radix.proofs.Joined.{numbers-join, numbers-lt, numbers-len}
-use Rattle.decoding.specs.Found.{Found}
-use Rattle.reader.specs.Answers.{verdict, padIn}
+use Rattle.decoding.specs.Found.{Found, flag}
 use Rattle.decoding.specs.Reads.{Reads}
 use Rattle.reader.specs.Claims.{Numbers}
 use Rattle.decoding.proofs.Demands.{some-answer, one-answer}
-use Rattle.tally.specs.Ranges.{isVerdict, every}
+use Rattle.decoding.proofs.Exactly.{few-checks}
+use Rattle.tally.specs.Told.{Told}
+use Rattle.tally.specs.Ranges.{isFlag, isKnown, known}
 use Rattle.tally.proofs.Verdicts.{is-accepted}
-use Rattle.lane.specs.Seen.{Seen}
-use Rattle.lane.specs.Claims.{OneSeen, SomeSeen}
+use Rattle.lane.specs.Seen.{telling, Seen}
+use Rattle.lane.specs.Claims.{OneSeen, SomeSeen, SeenIsKnown}
 
 pub one-seen : OneSeen
-one-seen bs vs ps ws qs o s t =
-    let e : s .xs ≡ t .xs = one-each 0 (λ i h a b. one-answer (getD (numbersOf bs) i 0) (numbers-lt bs o i h) a b) (s .each) (t .each) in
-    (s .verdicts ∙ ap (map verdict) e ∙ sym (t .verdicts), s .flags ∙ ap (map padIn) e ∙ sym (t .flags))
+one-seen bs xs ys o s t =
+    let e = one-each 0 (λ i h a b. one-answer (getD (numbersOf bs) i 0) (numbers-lt bs o i h) a b) (s .each) (t .each) in
+    s .tells ∙ ap (map telling) e ∙ sym (t .tells)
 
-answers : (fs : List ℕ) → Numbers fs → (xs : List (Answer Found)) × Each Reads fs xs
+answers : (fs : List ℕ) → Numbers fs → (rs : List (Answer Found)) × Each Reads fs rs
 answers [] n = ([], none)
 answers (f ∷ fs) n =
     let a = some-answer f (n 0 (zero-lt-suc (length fs))) in
@@ -44,39 +46,43 @@ answers (f ∷ fs) n =
 pub some-seen : SomeSeen
 some-seen bs o =
     let s = answers (numbersOf bs) (numbers-lt bs o) in
-    (map verdict (s .0), (map padIn (s .0), record { xs = s .0; each = s .1; verdicts = refl; flags = refl }))
+    (map telling (s .0), record { answers = s .0; each = s .1; tells = refl })
 
-pub as-many : {bs vs ps : List ℕ} → Seen bs vs ps → (length vs ≡ length bs / 8) × (length ps ≡ length bs / 8)
-as-many {bs} s =
-    let n = each-length (s .each) ∙ numbers-len (length bs / 8) bs 0 in
-    (ap length (s .verdicts) ∙ length-map (s .xs) verdict ∙ n, ap length (s .flags) ∙ length-map (s .xs) padIn ∙ n)
+pub as-many : {bs : List ℕ} {xs : List Told} → Seen bs xs → length xs ≡ length bs / 8
+as-many {bs} s = ap length (s .tells) ∙ length-map (s .answers) telling ∙ each-length (s .each) ∙ numbers-len (length bs / 8) bs 0
 
-is-verdict : (f : ℕ) (a : Answer Found) → Reads f a → isVerdict (verdict a) ≡ true
-is-verdict f (gives w) r = simp (is-accepted (length (w .places)) (r .few))
-is-verdict f (refused n) (inl (h, r)) = simp h
-is-verdict f (refused n) (inr (h, r)) = simp h
+is-flag : (b : Bool) → isFlag (flag b) ≡ true
+is-flag true = refl
+is-flag false = refl
 
-each-verdict : {fs : List ℕ} {xs : List (Answer Found)} → Each Reads fs xs → every isVerdict (map verdict xs) ≡ true
-unfolding every
-each-verdict none = refl
-each-verdict (next {x = f} {y = a} r e) = ap₂ (λ (x y : Bool). x && y) (is-verdict f a r) (each-verdict e)
+is-known : (f : ℕ) (a : Answer Found) → Reads f a → isKnown (telling a) ≡ true
+is-known f (gives w) r =
+    let n : isFlag (w .pad) ≡ true = rw (r .padded, is-flag) in
+    simp (is-accepted (length (w .places)) (r .few), n, le-leb _ _ (few-checks f w r))
+is-known f (refused n) (inl (h, r)) = simp h
+is-known f (refused n) (inr (h, r)) = simp h
 
-pub all-verdicts : {bs vs ps : List ℕ} → Seen bs vs ps → every isVerdict vs ≡ true
-all-verdicts s = ap (every isVerdict) (s .verdicts) ∙ each-verdict (s .each)
+each-known : {fs : List ℕ} {rs : List (Answer Found)} → Each Reads fs rs → known (map telling rs) ≡ true
+unfolding known
+each-known none = refl
+each-known (next {x = f} {y = a} r e) = ap₂ (λ (x y : Bool). x && y) (is-known f a r) (each-known e)
 
-each-join : {fs gs : List ℕ} {xs ys : List (Answer Found)} → Each Reads fs xs → Each Reads gs ys → Each Reads (fs ++ gs) (xs ++ ys)
+pub seen-is-known : SeenIsKnown
+seen-is-known bs xs s = ap known (s .tells) ∙ each-known (s .each)
+
+each-join : {fs gs : List ℕ} {rs ss : List (Answer Found)} → Each Reads fs rs → Each Reads gs ss → Each Reads (fs ++ gs) (rs ++ ss)
 each-join none d = d
 each-join (next r e) d = next r (each-join e d)
 
-map-join : (g : Answer Found → ℕ) (xs ys : List (Answer Found)) → map g xs ++ map g ys ≡ map g (xs ++ ys)
-map-join g [] ys = refl
-map-join g (x ∷ xs) ys = ap (λ (l : List ℕ). g x ∷ l) (map-join g xs ys)
+tell-join : (rs ss : List (Answer Found)) → map telling rs ++ map telling ss ≡ map telling (rs ++ ss)
+tell-join [] ss = refl
+tell-join (r ∷ rs) ss = ap (λ (l : List Told). telling r ∷ l) (tell-join rs ss)
 
-pub seen-join : (a b vs ps ws qs : List ℕ) → length a % 8 ≡ 0 → Seen a vs ps → Seen b ws qs → Seen (a ++ b) (vs ++ ws) (ps ++ qs)
-seen-join a b vs ps ws qs h s t =
+pub seen-join : (a b : List ℕ) (xs ys : List Told) → length a % 8 ≡ 0 → Seen a xs → Seen b ys → Seen (a ++ b) (xs ++ ys)
+seen-join a b xs ys h s t =
+    let all = s .answers ++ t .answers in
     record {
-      xs = s .xs ++ t .xs;
-      each = subst (λ (fs : List ℕ). Each Reads fs (s .xs ++ t .xs)) (sym (numbers-join a b h)) (each-join (s .each) (t .each));
-      verdicts = ap₂ (λ (l r : List ℕ). l ++ r) (s .verdicts) (t .verdicts) ∙ map-join verdict (s .xs) (t .xs);
-      flags = ap₂ (λ (l r : List ℕ). l ++ r) (s .flags) (t .flags) ∙ map-join padIn (s .xs) (t .xs);
+      answers = all;
+      each = subst (λ (fs : List ℕ). Each Reads fs all) (sym (numbers-join a b h)) (each-join (s .each) (t .each));
+      tells = ap₂ (λ (l r : List Told). l ++ r) (s .tells) (t .tells) ∙ tell-join (s .answers) (t .answers);
     }

@@ -1,8 +1,8 @@
 -- What counting a piece of a lane owes.
 -- ┌────────────────────┬───────────────────────────────────────────────────────────┐
 -- │ totalsOf t left    │ a tally with its frames and so many bytes left over       │
--- │ CountedAs t bs a   │ a is what the tally owes to the verdicts and flags of bs, │
--- │                    │ with the frames and the left-over                         │
+-- │ CountedAs t bs a   │ a is what the tally owes to what it is told of bs, with   │
+-- │                    │ the frames and the left-over                              │
 -- │ CountsPiece t bs a │ a is 12 for a piece over 65,536 bytes, else `CountedAs`   │
 -- └────────────────────┴───────────────────────────────────────────────────────────┘
 use mathlib.Core.Path.{_≡_}
@@ -12,6 +12,7 @@ use Prim.Native.Nat.{ℕ, _%_, _<_, _≤_}
 use lib.ListN.{length}
 use Rattle.paper.specs.Numbers.{unfit, mostBytes}
 use Rattle.paper.specs.Answer.{Answer, refused, owed}
+use Rattle.tally.specs.Told.{Told}
 use Rattle.tally.specs.Ranges.{framesIn}
 use Rattle.tally.specs.Fold.{after}
 use Rattle.tally.specs.Calls.{refusal}
@@ -23,10 +24,9 @@ abbrev pub totalsOf : Tally → ℕ → Totals
 totalsOf t left = record { tally = t; frames = framesIn t; left = left }
 
 pub record CountedAs (t : Tally) (bs : List ℕ) (a : Answer Totals) : Type 0 where
-  pub vs : List ℕ
-  pub ps : List ℕ
-  pub seen : Seen bs vs ps
-  pub owes : a ≡ owed (refusal t vs ps) (totalsOf (after t vs ps) (length bs % 8))
+  pub xs : List Told
+  pub seen : Seen bs xs
+  pub owes : a ≡ owed (refusal t xs) (totalsOf (after t xs) (length bs % 8))
 
 abbrev pub CountsPiece : Tally → List ℕ → Answer Totals → Type 0
 CountsPiece t bs a = ((mostBytes < length bs) × (a ≡ refused unfit)) ⊎ ((length bs ≤ mostBytes) × CountedAs t bs a)

@@ -1,8 +1,9 @@
 -- What is seen of a lane: there is a list of answers, one for each whole frame, each owed by `Reads`.
--- ┌───────────────┬────────────────────────────────────────────────────────────────┐
--- │ Seen bs vs ps │ vs and ps are the verdicts and pad flags of the whole frames   │
--- │               │ of the bytes bs                                                │
--- └───────────────┴────────────────────────────────────────────────────────────────┘
+-- ┌───────────┬────────────────────────────────────────────────────────────────────┐
+-- │ telling a │ what the tally is told of an answer: its verdict, its pad flag,    │
+-- │           │ its check flips                                                    │
+-- │ Seen bs xs│ xs is what it is told of the whole frames of the bytes bs          │
+-- └───────────┴────────────────────────────────────────────────────────────────────┘
 use mathlib.Core.Path.{_≡_}
 use mathlib.Core.List.{List, map}
 use Prim.Native.Nat.{ℕ}
@@ -10,11 +11,14 @@ use Rattle.paper.specs.Answer.{Answer}
 use Rattle.laws.specs.Lent.{Each}
 use Rattle.radix.specs.Octets.{numbersOf}
 use Rattle.decoding.specs.Found.{Found}
-use Rattle.reader.specs.Answers.{verdict, padIn}
+use Rattle.reader.specs.Answers.{verdict, padIn, checksIn}
 use Rattle.decoding.specs.Reads.{Reads}
+use Rattle.tally.specs.Told.{Told}
 
-pub record Seen (bs vs ps : List ℕ) : Type 0 where
-  pub xs : List (Answer Found)
-  pub each : Each Reads (numbersOf bs) xs
-  pub verdicts : vs ≡ map verdict xs
-  pub flags : ps ≡ map padIn xs
+abbrev pub telling : Answer Found → Told
+telling a = record { verdict = verdict a; pad = padIn a; checks = checksIn a }
+
+pub record Seen (bs : List ℕ) (xs : List Told) : Type 0 where
+  pub answers : List (Answer Found)
+  pub each : Each Reads (numbersOf bs) answers
+  pub tells : xs ≡ map telling answers

@@ -1,14 +1,14 @@
-// The count of a lane: bytes to frames, frames to verdicts and pad flags, these to the tally.
+// The count of a lane: bytes to frames, frames to verdicts, pad flags and check flips, these to the tally.
 ghost use mathlib.Core.Path.{_≡_};
 ghost use mathlib.Core.Bool.{true};
-ghost use Prim.Native.Nat.{_/_, _%_, _≤_};
+ghost use Prim.Native.Nat.{_/_, _%_};
 ghost use lib.ListN.{length};
 ghost use Rattle.laws.specs.Lent.{lent};
 ghost use Rattle.tally.specs.Ranges.{inRange};
 ghost use Rattle.tally.specs.Answers.{answer as added};
 ghost use Rattle.lane.specs.Answers.{answer};
 ghost use Rattle.lane.specs.Calls.{totalsOf, CountsPiece};
-ghost use Rattle.lane.specs.Parts.{SeesBy, Sees, totalled, StaysIn};
+ghost use Rattle.lane.specs.Parts.{Room, SeesBy, Sees, totalled, StaysIn};
 use tally::Added;
 use tally::HowMany;
 use tally::Tally;
@@ -52,27 +52,38 @@ fn answered(a: Added, bytes: usize) -> Counted
     }
 }
 
-fn see_by(c: &[u16; 4096], b: &[u16; 2048], bytes: &[u8], verdicts: &mut [u8], pads: &mut [u8])
-    requires { ⌜ (length (now bytes) / 8 ≤ length (now verdicts)) × (length (now bytes) / 8 ≤ length (now pads)) ⌝ }
-    ensures { λ _. ⌜ SeesBy (now (c .entry)) (now (b .entry)) (now (bytes .entry)) (lent verdicts) (lent pads) ⌝ }
+// A frame is put together a turn before it is read, as in the list form on bytes.
+fn see_by(
+    c: &[u16; 4096],
+    b: &[u16; 2048],
+    bytes: &[u8],
+    verdicts: &mut [u8],
+    pads: &mut [u8],
+    checks: &mut [u8],
+)
+    requires { ⌜ Room (length (now bytes) / 8) (now verdicts) (now pads) (now checks) ⌝ }
+    ensures { λ _. ⌜ SeesBy (now (c .entry)) (now (b .entry)) (now (bytes .entry)) (lent verdicts) (lent pads) (lent checks) ⌝ }
 {
     let mut i = 0;
+    let mut frame = octets::number(bytes, i);
     while i < bytes.len() / 8 {
-        let r = reader::read_by(c, b, octets::number(bytes, i));
-        verdicts[i] = reader::verdict_of(r);
-        pads[i] = reader::pad_of(r);
+        let s = reader::sight_by(c, b, frame);
+        verdicts[i] = s.verdict;
+        pads[i] = s.pad;
+        checks[i] = s.checks;
         i += 1;
+        frame = octets::number(bytes, i);
     }
 }
 
-// The verdict and the pad flag of each whole frame of a piece. The tables are taken once.
-fn see(bytes: &[u8], verdicts: &mut [u8], pads: &mut [u8])
-    requires { ⌜ (length (now bytes) / 8 ≤ length (now verdicts)) × (length (now bytes) / 8 ≤ length (now pads)) ⌝ }
-    ensures { λ _. ⌜ Sees (now (bytes .entry)) (lent verdicts) (lent pads) ⌝ }
+// The verdict, the pad flag and the check flips of each whole frame of a piece. The tables are taken once.
+fn see(bytes: &[u8], verdicts: &mut [u8], pads: &mut [u8], checks: &mut [u8])
+    requires { ⌜ Room (length (now bytes) / 8) (now verdicts) (now pads) (now checks) ⌝ }
+    ensures { λ _. ⌜ Sees (now (bytes .entry)) (lent verdicts) (lent pads) (lent checks) ⌝ }
 {
     let c = tables::corrections();
     let b = tables::byte_sums();
-    see_by(&c, &b, bytes, verdicts, pads);
+    see_by(&c, &b, bytes, verdicts, pads, checks);
 }
 
 // The whole frames of a piece of at most 65,536 bytes, counted on.
@@ -84,7 +95,11 @@ pub fn count(t: Tally, bytes: &[u8]) -> Counted
     }
     let mut verdicts = [0u8; 8192];
     let mut pads = [0u8; 8192];
-    see(bytes, &mut verdicts, &mut pads);
+    let mut checks = [0u8; 8192];
+    see(bytes, &mut verdicts, &mut pads, &mut checks);
     let n = bytes.len() / 8;
-    answered(t.add_list(&verdicts[..n], &pads[..n]), bytes.len())
+    answered(
+        t.add_list(&verdicts[..n], &pads[..n], &checks[..n]),
+        bytes.len(),
+    )
 }

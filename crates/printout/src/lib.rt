@@ -55,8 +55,8 @@ fn refused_lines(out: &mut [u8], at: usize, t: Tally) -> usize
     line(out, no_word, b"run-broken ", t.run_broken)
 }
 
-// Puts the listing of u at the start of `out`, and answers its length, 228 at most.
-pub fn text(u: Totals, out: &mut [u8; 256]) -> usize
+// Puts the listing of u at the start of `out`, and answers its length, 261 at most.
+pub fn text(u: Totals, out: &mut [u8; 512]) -> usize
     ensures { λ r. ⌜ Says u (now (out .entry)) r (now (out .exit)) ⌝ }
 {
     let t = u.tally;
@@ -64,5 +64,6 @@ pub fn text(u: Totals, out: &mut [u8; 256]) -> usize
     let accepted = accepted_lines(out, frames, t);
     let refused = refused_lines(out, accepted, t);
     let pads = line(out, refused, b"pad-wrong ", t.pad_wrong);
-    line(out, pads, b"left-over ", u.left)
+    let checks = line(out, pads, b"check-flips ", t.check_flips);
+    line(out, checks, b"left-over ", u.left)
 }

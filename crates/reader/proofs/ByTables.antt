@@ -3,6 +3,8 @@
 -- │ sums-by         │ the sum of a frame's eight entries is the sums of its word   │
 -- │ read-received   │ a frame of remainder 0                                       │
 -- │ read-mended     │ any frame, its sums known                                    │
+-- │ as-clean        │ of clean sums what came is said                              │
+-- │ as-mended       │ of any others what mending answers                           │
 -- │ by-the-tables   │ the claim of specs/Claims.antt by this name                  │
 -- │ shown-by-tables │ outputs that show frames read so show an answer to each      │
 -- │ shown-of-bytes  │ the same of the frames of bytes                              │
@@ -35,9 +37,9 @@ use Rattle.tables.specs.Tables.{entryOf, MendTable, ByteSums}
 use Rattle.frame.proofs.Sums.{all-right, runs-xor, sums-low, sums-high}
 use Rattle.tables.proofs.Tables.{frameSums, frame-sums-xor, mend-entry}
 use Rattle.tables.proofs.Grown.{byte-turn}
-use Rattle.decoding.specs.Found.{Found, flag}
+use Rattle.decoding.specs.Found.{Found, flag, checkFlips}
 use Rattle.decoding.specs.Reads.{Reads}
-use Rattle.reader.specs.ByTables.{byteOf, sumsBy, Mended, nearBy, asReceived, byEntry, mendBy, lawfulBy, saidBy, readBy}
+use Rattle.reader.specs.ByTables.{byteOf, sumsBy, Mended, nearBy, asReceived, byEntry, mendBy, clean, lawfulBy, saidBy, readBy}
 use Rattle.reader.specs.Claims.{ByTheTables, Numbers}
 use Rattle.decoding.proofs.Demands.{mended, no-word, a-word, run-broken, received, received-broken}
 
@@ -57,22 +59,24 @@ module _ (b : List ℕ) (t : ByteSums b) where
   pub sums-by : (f : ℕ) → f < 2 ^ 64 → sumsBy b 8 f ≡ sums (wordOf f)
   sums-by f h = first-bytes 8 f (omega arith) ∙ ap frameSums (mod-eq-of-lt h)
 
+-- data, places and pad flag, with the check flips of these places
+abbrev read-as : ℕ → List ℕ → ℕ → Answer Found
+read-as d ps p = gives (record { «data» = d; places = ps; checks = checkFlips ps; pad = p })
+
 -- a word is that of its frame, and position 62 its last
-framed : (f w : ℕ) {ps : List ℕ}
-    → Reads f (gives (record { «data» = dataOf w; places = ps; pad = flag (eqb (padOf f) (position w 62)) }))
-    → Reads f (gives (record { «data» = dataOf (wordOf (padded w)); places = ps; pad = flag (eqb (padOf f) (w % 2)) }))
-framed f w {ps} =
-    subst (Reads f)
-    (λ i. gives (record { «data» = dataOf (sym (word-padded w) i); places = ps; pad = flag (eqb (padOf f) (div-one w i % 2)) }))
+framed : (f w : ℕ) (ps : List ℕ)
+    → Reads f (read-as (dataOf w) ps (flag (eqb (padOf f) (position w 62))))
+    → Reads f (read-as (dataOf (wordOf (padded w))) ps (flag (eqb (padOf f) (w % 2))))
+framed f w ps = subst (Reads f) (λ i. read-as (dataOf (sym (word-padded w) i)) ps (flag (eqb (padOf f) (div-one w i % 2))))
 
 -- a mended word, by whether its run sums are right
 said : (f : ℕ) (m : Mended)
-    → (m .runs ≡ 7 → Reads f (gives (record { «data» = dataOf (wordOf (m .clean)); places = m .places; pad = m .pad })))
+    → (m .runs ≡ 7 → Reads f (read-as (dataOf (wordOf (m .clean))) (m .places) (m .pad)))
     → ((m .runs ≡ 7 → ⊥) → Reads f (refused 14)) → Reads f (lawfulBy m)
 said f m p q = by (ℕ-discrete (m .runs) 7)
   where
     R : Bool → Type 0
-    R t = Reads f (cond t (gives (record { «data» = dataOf (wordOf (m .clean)); places = m .places; pad = m .pad })) (refused 14))
+    R t = Reads f (cond t (read-as (dataOf (wordOf (m .clean))) (m .places) (m .pad)) (refused 14))
 
     by : Dec (m .runs ≡ 7) → Reads f (lawfulBy m)
     by (yes e) = subst R (sym (eq-eqb (m .runs) 7 e)) (p e)
@@ -82,7 +86,7 @@ module _ (f : ℕ) (h : f < 2 ^ 64) where
   pub read-received : sums (wordOf f) % 4096 ≡ 0 → Reads f (saidBy (asReceived (sums (wordOf f)) f))
   read-received z =
       said f (nearBy f (wordOf f) [] (sums (wordOf f) / 4096))
-      (λ e. framed f (wordOf f) (received f h r (all-right (wordOf f) .1 (sym (sums-high (wordOf f)) ∙ e))))
+      (λ e. framed f (wordOf f) [] (received f h r (all-right (wordOf f) .1 (sym (sums-high (wordOf f)) ∙ e))))
       (λ n. received-broken f h r (λ t. n (sums-high (wordOf f) ∙ all-right (wordOf f) .0 t)))
     where
       r : rem 63 (wordOf f) ≡ 0
@@ -109,32 +113,46 @@ module _ (f : ℕ) (h : f < 2 ^ 64) where
       by (no z) =
           subst R (sym (ne-eqb e 0 z))
           (said f near
-          (λ q. framed f (mended f e) (a-word f e h t z (all-right (mended f e) .1 (sym runs ∙ q))))
+          (λ q. framed f (mended f e) (places e) (a-word f e h t z (all-right (mended f e) .1 (sym runs ∙ q))))
           (λ q. run-broken f e h t z (λ s. q (runs ∙ all-right (mended f e) .0 s))))
 
   pub read-mended : (c : List ℕ) → MendTable c → Reads f (saidBy (mendBy c (sums (wordOf f)) f))
-  read-mended c m = by (ℕ-discrete (sums (wordOf f) % 4096) 0)
+  read-mended c m =
+      read-entry n
+      (subst (λ (r : ℕ). Entry r (entryOf n)) (sums-low (wordOf f)) (mend-entry m (sums (wordOf f) % 4096) i))
+      (m .runs (sums (wordOf f) % 4096) i)
     where
       n : ℕ
       n = getD c (sums (wordOf f) % 4096) 0
 
-      R : Bool → Type 0
-      R b = Reads f (saidBy (cond b (asReceived (sums (wordOf f)) f) (byEntry n (sums (wordOf f)) f)))
-
       i : sums (wordOf f) % 4096 < 4096
       i = mod-lt (sums (wordOf f)) (lit< tt)
 
-      by : Dec (sums (wordOf f) % 4096 ≡ 0) → Reads f (saidBy (mendBy c (sums (wordOf f)) f))
-      by (yes z) = subst R (sym (eq-eqb (sums (wordOf f) % 4096) 0 z)) (read-received z)
-      by (no z) =
-          subst R (sym (ne-eqb (sums (wordOf f) % 4096) 0 z))
-          (read-entry n
-          (subst (λ (r : ℕ). Entry r (entryOf n)) (sums-low (wordOf f)) (mend-entry m (sums (wordOf f) % 4096) i))
-          (m .runs (sums (wordOf f) % 4096) i))
+-- a frame's sums decide which of both is said
+module _ (c b : List ℕ) (f x : ℕ) where
+  pub as-clean : x ≡ sumsBy b 8 f → x ≡ clean → saidBy (asReceived clean f) ≡ readBy c b f
+  unfolding readBy
+  as-clean e z =
+      ap (λ (t : Bool). saidBy (cond t (asReceived clean f) (mendBy c (sumsBy b 8 f) f))) (sym (eq-eqb (sumsBy b 8 f) clean (sym e ∙ z)))
+
+  pub as-mended : (m : Answer Mended) → x ≡ sumsBy b 8 f → (x ≡ clean → ⊥) → m ≡ mendBy c x f → saidBy m ≡ readBy c b f
+  unfolding readBy
+  as-mended m e n q =
+      ap saidBy (q ∙ ap (λ (y : ℕ). mendBy c y f) e)
+      ∙ ap (λ (t : Bool). saidBy (cond t (asReceived clean f) (mendBy c (sumsBy b 8 f) f)))
+      (sym (ne-eqb (sumsBy b 8 f) clean (λ z. n (e ∙ z))))
 
 pub by-the-tables : ByTheTables
-unfolding readBy
-by-the-tables c b m t f h = subst (λ (x : ℕ). Reads f (saidBy (mendBy c x f))) (sym (sums-by b t f h)) (read-mended f h c m)
+by-the-tables c b m t f h = by (ℕ-discrete (sums (wordOf f)) clean)
+  where
+    e : sums (wordOf f) ≡ sumsBy b 8 f
+    e = sym (sums-by b t f h)
+
+    by : Dec (sums (wordOf f) ≡ clean) → Reads f (readBy c b f)
+    by (yes z) =
+        subst (Reads f) (as-clean c b f (sums (wordOf f)) e z)
+        (subst (λ (x : ℕ). Reads f (saidBy (asReceived x f))) z (read-received f h (ap (λ (x : ℕ). x % 4096) z)))
+    by (no n) = subst (Reads f) (as-mended c b f (sums (wordOf f)) (mendBy c (sums (wordOf f)) f) e n refl) (read-mended f h c m)
 
 module _ {c b : List ℕ} (m : MendTable c) (t : ByteSums b) where
   -- outputs that show the frames of a list, read by the tables, show an answer to each

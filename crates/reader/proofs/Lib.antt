@@ -1,3 +1,4 @@
 pub mod ByTables
+pub mod Entries
 pub mod Turns
 pub mod OneAnswer

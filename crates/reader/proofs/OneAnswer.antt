@@ -3,7 +3,7 @@
 -- │ answer-one    │ two readings of one answer are the same                        │
 -- │ one-reading … │ the statements of specs/Claims.antt by these names             │
 -- └───────────────┴────────────────────────────────────────────────────────────────┘
-use mathlib.Core.Path.{_≡_, refl, sym, ap, ap₂, _∙_}
+use mathlib.Core.Path.{_≡_, refl, sym, ap, _∙_}
 use mathlib.Core.Bool.{Bool, true, false}
 use mathlib.Core.List.{List, [], _∷_}
 use Prim.Native.Nat.{ℕ, _<_}
@@ -33,11 +33,12 @@ flipsAt (a ∷ []) = One a
 flipsAt (a ∷ b ∷ l) = Two a b
 
 saying : Found → Word
-saying r = record { «data» = r .«data»; flips = flipsAt (r .places); «pad_wrong» = eqb (r .pad) 1 }
+saying r = record { «data» = r .«data»; flips = flipsAt (r .places); «check_flips» = r .checks; «pad_wrong» = eqb (r .pad) 1 }
 
 said-back : (w : Word) → saying (found w) ≡ w
 unfolding saying flipsAt
-said-back w = λ i. record { «data» = w .«data»; flips = flips (w .flips) i; «pad_wrong» = flags (w .«pad_wrong») i }
+said-back w =
+    λ i. record { «data» = w .«data»; flips = flips (w .flips) i; «check_flips» = w .«check_flips»; «pad_wrong» = flags (w .«pad_wrong») i }
   where
     flips : (p : Flips) → flipsAt (placesOf p) ≡ p
     flips Nowhere = refl
@@ -65,21 +66,25 @@ one-at : (fs : List ℕ) → Numbers fs → (i : ℕ) → i < length fs → (a b
 one-at fs n i h a b r s = one-answer (getD fs i 0) (n i h) a b r s
 
 pub one-read-list : OneReadList
-one-read-list fs d d′ v v′ a b n x y p q =
-    let k : listRefusal fs (d .was) (v .was) ≡ listRefusal fs (d′ .was) (v′ .was) = ap₂ (listRefusal fs) x y in
-    let o = one-call Reads 0 fs (one-at fs n) _ _ k (listShown d v) (listShown d′ v′) (refl, x, (refl, y, tt)) a b p q in
-    (o .0, o .1 .0, o .1 .1 .0)
-
-pub one-read-pads : OneReadPads
-one-read-pads fs d d′ v v′ t t′ a b n x y z p q =
-    let k : padsRefusal fs (d .was) (v .was) (t .was) ≡ padsRefusal fs (d′ .was) (v′ .was) (t′ .was) =
-    λ i. padsRefusal fs (x i) (y i) (z i) in
-    let o = one-call Reads 0 fs (one-at fs n) _ _ k (allShown d v t) (allShown d′ v′ t′) (refl, x, (refl, y, (refl, z, tt))) a b p q in
+one-read-list fs d d′ v v′ t t′ a b n x y z p q =
+    let k : listRefusal fs (d .was) (v .was) (t .was) ≡ listRefusal fs (d′ .was) (v′ .was) (t′ .was) =
+    λ i. listRefusal fs (x i) (y i) (z i) in
+    let o = one-call Reads 0 fs (one-at fs n) _ _ k (listShown d v t) (listShown d′ v′ t′) (refl, x, (refl, y, (refl, z, tt))) a b p q in
     (o .0, o .1 .0, o .1 .1 .0, o .1 .1 .1 .0)
 
-pub one-read-bytes : OneReadBytes
-one-read-bytes fs d d′ v v′ a b n x y p q =
-    let k : bytesRefusal fs (d .was) (v .was) ≡ bytesRefusal fs (d′ .was) (v′ .was) = ap₂ (bytesRefusal fs) x y in
+pub one-read-pads : OneReadPads
+one-read-pads fs d d′ v v′ s s′ t t′ a b n x y w z p q =
+    let k : padsRefusal fs (d .was) (v .was) (s .was) (t .was) ≡ padsRefusal fs (d′ .was) (v′ .was) (s′ .was) (t′ .was) =
+    λ i. padsRefusal fs (x i) (y i) (w i) (z i) in
     let o =
-    one-call Reads 0 (numbersOf fs) (one-at (numbersOf fs) (numbers-lt fs n)) _ _ k (bytesShown d v) (bytesShown d′ v′) (refl, x, (refl, y, tt)) a b p q in
-    (o .0, o .1 .0, o .1 .1 .0)
+    one-call Reads 0 fs (one-at fs n) _ _ k (allShown d v s t) (allShown d′ v′ s′ t′) (refl, w, (refl, x, (refl, y, (refl, z, tt)))) a b p q in
+    (o .0, o .1 .1 .0, o .1 .1 .1 .0, o .1 .0, o .1 .1 .1 .1 .0)
+
+pub one-read-bytes : OneReadBytes
+one-read-bytes fs d d′ v v′ t t′ a b n x y z p q =
+    let k : bytesRefusal fs (d .was) (v .was) (t .was) ≡ bytesRefusal fs (d′ .was) (v′ .was) (t′ .was) =
+    λ i. bytesRefusal fs (x i) (y i) (z i) in
+    let ns = numbersOf fs in
+    let o =
+    one-call Reads 0 ns (one-at ns (numbers-lt fs n)) _ _ k (bytesShown d v t) (bytesShown d′ v′ t′) (refl, x, (refl, y, (refl, z, tt))) a b p q in
+    (o .0, o .1 .0, o .1 .1 .0, o .1 .1 .1 .0)

@@ -6,6 +6,8 @@
 -- │ verdict a   │ the verdict byte: how many flips, or the refusal                 │
 -- │ dataIn a    │ the data of a list's place: 0 where the frame is refused         │
 -- │ padIn a     │ the pad flag of a list's place: 0 where the frame is refused     │
+-- │ checksIn a  │ the check flips of a list's place: 0 where the frame is refused  │
+-- │ sight a     │ all that lists show of an answer                                 │
 -- └─────────────┴──────────────────────────────────────────────────────────────────┘
 use mathlib.Core.List.{List, [], _∷_}
 use Prim.Native.Nat.{ℕ}
@@ -16,6 +18,7 @@ use Rattle.reader.specs.declared.Flips.{Flips}
 use Rattle.reader.specs.declared.Flips.the-variants.{Nowhere, One, Two}
 use Rattle.reader.specs.declared.Word.{Word}
 use Rattle.reader.specs.declared.Reading.{Reading}
+use Rattle.reader.specs.declared.sight.Sight.{Sight}
 use Rattle.reader.specs.declared.Reading.the-variants.{Lawful, Refused}
 
 abbrev pub placesOf : Flips → List ℕ
@@ -24,7 +27,7 @@ placesOf (One a) = a ∷ []
 placesOf (Two a b) = a ∷ b ∷ []
 
 abbrev pub found : Word → Found
-found w = record { «data» = w .«data»; places = placesOf (w .flips); pad = flag (w .«pad_wrong») }
+found w = record { «data» = w .«data»; places = placesOf (w .flips); checks = w .«check_flips»; pad = flag (w .«pad_wrong») }
 
 abbrev pub answer : Reading → Answer Found
 answer (Lawful w) = gives (found w)
@@ -41,3 +44,10 @@ dataIn (refused n) = 0
 abbrev pub padIn : Answer Found → ℕ
 padIn (gives w) = w .pad
 padIn (refused n) = 0
+
+abbrev pub checksIn : Answer Found → ℕ
+checksIn (gives w) = w .checks
+checksIn (refused n) = 0
+
+abbrev pub sight : Answer Found → Sight
+sight a = record { «data» = dataIn a; verdict = verdict a; pad = padIn a; checks = checksIn a }

@@ -9,9 +9,10 @@
 -- │ byEntry n x f   │ mended by the entry n and the run sums above it; 13 for none │
 -- │ mendBy c x f    │ the word of f, whose sums are x, mended by the entry of c    │
 -- │                 │ for its remainder                                            │
+-- │ clean           │ the sums of a lawful word: remainder 0, and all right        │
 -- │ lawfulBy m      │ what a mended word says: 14 where its run sums are not right │
 -- │ saidBy a        │ the same, of what mending answers                            │
--- │ readBy c b f    │ both                                                         │
+-- │ readBy c b f    │ both; a frame of clean sums is not mended                    │
 -- └─────────────────┴──────────────────────────────────────────────────────────────┘
 use mathlib.Core.Bool.{cond}
 use mathlib.Core.List.{List, []}
@@ -25,7 +26,7 @@ use Rattle.bch.specs.Corrections.{places, mask}
 use Rattle.frame.specs.Word.{wordOf, padOf, padded, dataOf}
 use Rattle.frame.specs.Sums.{allRight}
 use Rattle.tables.specs.Tables.{entryOf}
-use Rattle.decoding.specs.Found.{Found, flag}
+use Rattle.decoding.specs.Found.{Found, flag, checkFlips}
 
 abbrev pub byteOf : ℕ → ℕ → ℕ
 byteOf f k = f / 2 ^ (k * 8) % 256
@@ -53,12 +54,15 @@ byEntry n x f =
     (gives (nearBy f (bitXor (wordOf f) (mask (entryOf n))) (places (entryOf n)) (bitXor x n / 4096)))
 
 abbrev pub mendBy : List ℕ → ℕ → ℕ → Answer Mended
-mendBy c x f = cond (eqb (x % 4096) 0) (asReceived x f) (byEntry (getD c (x % 4096) 0) x f)
+mendBy c x f = byEntry (getD c (x % 4096) 0) x f
+
+abbrev pub clean : ℕ
+clean = 4096 * allRight
 
 abbrev pub lawfulBy : Mended → Answer Found
 lawfulBy m =
     cond (eqb (m .runs) allRight)
-    (gives (record { «data» = dataOf (wordOf (m .clean)); places = m .places; pad = m .pad }))
+    (gives (record { «data» = dataOf (wordOf (m .clean)); places = m .places; checks = checkFlips (m .places); pad = m .pad }))
     (refused runBroken)
 
 abbrev pub saidBy : Answer Mended → Answer Found
@@ -66,4 +70,4 @@ saidBy (gives m) = lawfulBy m
 saidBy (refused n) = refused n
 
 unfoldable pub readBy : List ℕ → List ℕ → ℕ → Answer Found
-readBy c b f = saidBy (mendBy c (sumsBy b 8 f) f)
+readBy c b f = saidBy (cond (eqb (sumsBy b 8 f) clean) (asReceived clean f) (mendBy c (sumsBy b 8 f) f))

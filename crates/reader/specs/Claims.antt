@@ -36,14 +36,17 @@ abbrev pub Numbers : List ℕ → Type 0
 Numbers fs = (i : ℕ) → i < length fs → getD fs i 0 < 2 ^ 64
 
 abbrev pub OneReadList : Type 0
-OneReadList = (fs : List ℕ) (d d′ v v′ : Lent) (a b : Answer Unit) → Numbers fs → d .was ≡ d′ .was → v .was ≡ v′ .was
-    → ReadsList fs d v a → ReadsList fs d′ v′ b → (a ≡ b) × (d .is ≡ d′ .is) × (v .is ≡ v′ .is)
+OneReadList = (fs : List ℕ) (d d′ v v′ c c′ : Lent) (a b : Answer Unit) → Numbers fs
+    → d .was ≡ d′ .was → v .was ≡ v′ .was → c .was ≡ c′ .was
+    → ReadsList fs d v c a → ReadsList fs d′ v′ c′ b → (a ≡ b) × (d .is ≡ d′ .is) × (v .is ≡ v′ .is) × (c .is ≡ c′ .is)
 
 abbrev pub OneReadPads : Type 0
-OneReadPads = (fs : List ℕ) (d d′ v v′ p p′ : Lent) (a b : Answer Unit) → Numbers fs
-    → d .was ≡ d′ .was → v .was ≡ v′ .was → p .was ≡ p′ .was
-    → ReadsPads fs d v p a → ReadsPads fs d′ v′ p′ b → (a ≡ b) × (d .is ≡ d′ .is) × (v .is ≡ v′ .is) × (p .is ≡ p′ .is)
+OneReadPads = (fs : List ℕ) (d d′ v v′ p p′ c c′ : Lent) (a b : Answer Unit) → Numbers fs
+    → d .was ≡ d′ .was → v .was ≡ v′ .was → p .was ≡ p′ .was → c .was ≡ c′ .was
+    → ReadsPads fs d v p c a → ReadsPads fs d′ v′ p′ c′ b
+    → (a ≡ b) × (d .is ≡ d′ .is) × (v .is ≡ v′ .is) × (p .is ≡ p′ .is) × (c .is ≡ c′ .is)
 
 abbrev pub OneReadBytes : Type 0
-OneReadBytes = (fs : List ℕ) (d d′ v v′ : Lent) (a b : Answer Unit) → Octets fs → d .was ≡ d′ .was → v .was ≡ v′ .was
-    → ReadsBytes fs d v a → ReadsBytes fs d′ v′ b → (a ≡ b) × (d .is ≡ d′ .is) × (v .is ≡ v′ .is)
+OneReadBytes = (fs : List ℕ) (d d′ v v′ c c′ : Lent) (a b : Answer Unit) → Octets fs
+    → d .was ≡ d′ .was → v .was ≡ v′ .was → c .was ≡ c′ .was
+    → ReadsBytes fs d v c a → ReadsBytes fs d′ v′ c′ b → (a ≡ b) × (d .is ≡ d′ .is) × (v .is ≡ v′ .is) × (c .is ≡ c′ .is)

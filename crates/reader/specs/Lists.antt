@@ -6,11 +6,11 @@
 -- │ listRefusal    │ 12 for a short output of `read_list`, else 0                    │
 -- │ padsRefusal    │ of `read_list_pads`                                             │
 -- │ bytesRefusal   │ of `read_bytes`: 12 also for a ragged length                    │
--- │ listShown d v  │ the outputs of `read_list`: data and verdicts                   │
+-- │ listShown      │ the outputs of `read_list`: data, verdicts and check flips      │
 -- │ ReadsList      │ what `read_list` owes                                           │
--- │ allShown d v p │ those of `read_list_pads`: data, verdicts and pad flags         │
+-- │ allShown       │ those of `read_list_pads`: the pad flags too                    │
 -- │ ReadsPads      │ what it owes                                                    │
--- │ bytesShown d v │ those of `read_bytes`: data as bytes, and verdicts              │
+-- │ bytesShown     │ those of `read_bytes`: data as bytes, verdicts and check flips  │
 -- │ ReadsBytes     │ what it owes: the frames are bytes too                          │
 -- └────────────────┴─────────────────────────────────────────────────────────────────┘
 use mathlib.Core.Path.{_≡_}
@@ -24,7 +24,7 @@ use Rattle.paper.specs.Answer.{Answer}
 use Rattle.laws.specs.Lent.{Lent, Output, ListCall, short}
 use Rattle.radix.specs.Octets.{numbersOf, bytesOf, ragged}
 use Rattle.decoding.specs.Found.{Found}
-use Rattle.reader.specs.Answers.{verdict, dataIn, padIn}
+use Rattle.reader.specs.Answers.{verdict, dataIn, padIn, checksIn}
 use Rattle.decoding.specs.Reads.{Reads}
 
 abbrev pub VerdictOf : ℕ → ℕ → Type 0
@@ -36,29 +36,30 @@ shown g o = record { shows = map g; place = o }
 abbrev pub shownBytes : (Answer Found → ℕ) → Lent → Output (Answer Found)
 shownBytes g o = record { shows = λ xs. bytesOf (map g xs); place = o }
 
-abbrev pub listRefusal : List ℕ → List ℕ → List ℕ → ℕ
-listRefusal fs ds vs = cond (short fs ds || short fs vs) unfit 0
+abbrev pub listRefusal : List ℕ → List ℕ → List ℕ → List ℕ → ℕ
+listRefusal fs ds vs cs = cond (short fs ds || (short fs vs || short fs cs)) unfit 0
 
-abbrev pub padsRefusal : List ℕ → List ℕ → List ℕ → List ℕ → ℕ
-padsRefusal fs ds vs ps = cond (short fs ds || (short fs vs || short fs ps)) unfit 0
+abbrev pub padsRefusal : List ℕ → List ℕ → List ℕ → List ℕ → List ℕ → ℕ
+padsRefusal fs ds vs ps cs = cond (short fs ps) unfit (listRefusal fs ds vs cs)
 
-abbrev pub bytesRefusal : List ℕ → List ℕ → List ℕ → ℕ
-bytesRefusal fs ds vs = cond (ragged fs || (ragged ds || (short fs ds || ltb (length vs) (length fs / 8)))) unfit 0
+abbrev pub bytesRefusal : List ℕ → List ℕ → List ℕ → List ℕ → ℕ
+bytesRefusal fs ds vs cs =
+    cond (ragged fs || (ragged ds || (short fs ds || (ltb (length vs) (length fs / 8) || ltb (length cs) (length fs / 8))))) unfit 0
 
-abbrev pub listShown : Lent → Lent → List (Output (Answer Found))
-listShown d v = shown dataIn d ∷ shown verdict v ∷ []
+abbrev pub listShown : Lent → Lent → Lent → List (Output (Answer Found))
+listShown d v c = shown dataIn d ∷ shown verdict v ∷ shown checksIn c ∷ []
 
-abbrev pub ReadsList : List ℕ → Lent → Lent → Answer Unit → Type 0
-ReadsList fs d v a = ListCall Reads fs (listRefusal fs (d .was) (v .was)) (listShown d v) a
+abbrev pub ReadsList : List ℕ → Lent → Lent → Lent → Answer Unit → Type 0
+ReadsList fs d v c a = ListCall Reads fs (listRefusal fs (d .was) (v .was) (c .was)) (listShown d v c) a
 
-abbrev pub allShown : Lent → Lent → Lent → List (Output (Answer Found))
-allShown d v p = shown dataIn d ∷ shown verdict v ∷ shown padIn p ∷ []
+abbrev pub allShown : Lent → Lent → Lent → Lent → List (Output (Answer Found))
+allShown d v p c = shown padIn p ∷ listShown d v c
 
-abbrev pub ReadsPads : List ℕ → Lent → Lent → Lent → Answer Unit → Type 0
-ReadsPads fs d v p a = ListCall Reads fs (padsRefusal fs (d .was) (v .was) (p .was)) (allShown d v p) a
+abbrev pub ReadsPads : List ℕ → Lent → Lent → Lent → Lent → Answer Unit → Type 0
+ReadsPads fs d v p c a = ListCall Reads fs (padsRefusal fs (d .was) (v .was) (p .was) (c .was)) (allShown d v p c) a
 
-abbrev pub bytesShown : Lent → Lent → List (Output (Answer Found))
-bytesShown d v = shownBytes dataIn d ∷ shown verdict v ∷ []
+abbrev pub bytesShown : Lent → Lent → Lent → List (Output (Answer Found))
+bytesShown d v c = shownBytes dataIn d ∷ shown verdict v ∷ shown checksIn c ∷ []
 
-abbrev pub ReadsBytes : List ℕ → Lent → Lent → Answer Unit → Type 0
-ReadsBytes fs d v a = ListCall Reads (numbersOf fs) (bytesRefusal fs (d .was) (v .was)) (bytesShown d v) a
+abbrev pub ReadsBytes : List ℕ → Lent → Lent → Lent → Answer Unit → Type 0
+ReadsBytes fs d v c a = ListCall Reads (numbersOf fs) (bytesRefusal fs (d .was) (v .was) (c .was)) (bytesShown d v c) a

@@ -3,19 +3,23 @@ ghost use mathlib.Core.Path.{_≡_};
 ghost use lib.ListN.{length};
 ghost use Rattle.paper.specs.Answer.{listed};
 ghost use Rattle.laws.specs.Lent.{_to_};
-ghost use Rattle.reader.specs.Answers.{placesOf, answer, verdict, dataIn, padIn};
+ghost use Rattle.reader.specs.Answers.{placesOf, answer, verdict};
 ghost use Rattle.decoding.specs.Reads.{Reads};
 ghost use Rattle.reader.specs.ByTables.{readBy};
 ghost use Rattle.reader.specs.Lists.{ReadsList, ReadsPads};
 use paper::Listed;
 
 mod bytes;
+mod flipped;
 mod lists;
 mod mend;
 mod said;
+mod sight;
 mod sums;
 
 pub use bytes::read_bytes;
+pub use sight::Sight;
+pub use sight::sight_by;
 
 // The places of the flips that were undone, the lower first.
 pub enum Flips {
@@ -24,10 +28,11 @@ pub enum Flips {
     Two(u64, u64),
 }
 
-// What a lawful word within two flips says of the frame that was received.
+// What a lawful word within two flips says of the frame that was received. The check flips are those in positions 51 to 62.
 pub struct Word {
     pub data: u64,
     pub flips: Flips,
+    pub check_flips: u8,
     pub pad_wrong: bool,
 }
 
@@ -81,29 +86,10 @@ pub fn verdict_of(r: Reading) -> u8
     }
 }
 
-// The data of a reading in a list, 0 where the frame is refused.
-pub fn data_of(r: Reading) -> u64
-    ensures { λ x. ⌜ x ≡ dataIn (answer r) ⌝ }
-{
-    match r {
-        Reading::Lawful(w) => w.data,
-        Reading::Refused(_) => 0,
-    }
-}
-
-// The pad flag of a reading in a list, 1 for wrong, 0 where the frame is refused.
-pub fn pad_of(r: Reading) -> u8
-    ensures { λ x. ⌜ x ≡ padIn (answer r) ⌝ }
-{
-    match r {
-        Reading::Lawful(w) => { if w.pad_wrong { 1 } else { 0 } }
-        Reading::Refused(_) => 0,
-    }
-}
-
-// The data and the verdict byte of each frame of a list, at the front of two lent outputs.
-pub fn read_list(frames: &[u64], data: &mut [u64], verdicts: &mut [u8]) -> Listed
-    ensures { λ r. ⌜ ReadsList (now (frames .entry)) («data» .entry to «data» .exit) (verdicts .entry to verdicts .exit) (listed r) ⌝ }
+// The data, the verdict byte and the check flips of each frame of a list, at the front of three lent outputs.
+pub fn read_list(frames: &[u64], data: &mut [u64], verdicts: &mut [u8], checks: &mut [u8]) -> Listed
+    ensures { λ r. ⌜ ReadsList (now (frames .entry)) («data» .entry to «data» .exit) (verdicts .entry to verdicts .exit)
+        (checks .entry to checks .exit) (listed r) ⌝ }
 {
     if data.len() < frames.len() {
         return Listed::Refused(paper::UNFIT);
@@ -111,30 +97,37 @@ pub fn read_list(frames: &[u64], data: &mut [u64], verdicts: &mut [u8]) -> Liste
     if verdicts.len() < frames.len() {
         return Listed::Refused(paper::UNFIT);
     }
+    if checks.len() < frames.len() {
+        return Listed::Refused(paper::UNFIT);
+    }
     let mut no_pads = [0u8; 1];
-    lists::read_all(frames, data, verdicts, &mut no_pads);
+    lists::read_all(frames, data, verdicts, &mut no_pads, checks);
     Listed::Done
 }
 
-// The same, and the pad flag of each frame, 1 for wrong, at the front of a third lent output.
+// The same, and the pad flag of each frame, 1 for wrong, at the front of a fourth lent output.
 pub fn read_list_pads(
     frames: &[u64],
     data: &mut [u64],
     verdicts: &mut [u8],
     pads: &mut [u8],
+    checks: &mut [u8],
 ) -> Listed
     ensures { λ r. ⌜ ReadsPads (now (frames .entry)) («data» .entry to «data» .exit) (verdicts .entry to verdicts .exit)
-        (pads .entry to pads .exit) (listed r) ⌝ }
+        (pads .entry to pads .exit) (checks .entry to checks .exit) (listed r) ⌝ }
 {
+    if pads.len() < frames.len() {
+        return Listed::Refused(paper::UNFIT);
+    }
     if data.len() < frames.len() {
         return Listed::Refused(paper::UNFIT);
     }
     if verdicts.len() < frames.len() {
         return Listed::Refused(paper::UNFIT);
     }
-    if pads.len() < frames.len() {
+    if checks.len() < frames.len() {
         return Listed::Refused(paper::UNFIT);
     }
-    lists::read_all(frames, data, verdicts, pads);
+    lists::read_all(frames, data, verdicts, pads, checks);
     Listed::Done
 }

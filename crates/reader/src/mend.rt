@@ -1,21 +1,24 @@
-// Mending, over all code words: the clean frame within two flips, the places to reach it, its pad, its run sums.
+// Mending, over all code words: the clean frame within two flips, the entry of its flips, its pad, its run sums.
 ghost use mathlib.Core.Path.{_≡_};
 ghost use Prim.Native.Nat.{_<_, _^_};
 ghost use Rattle.bch.specs.Corrections.{places, mask};
+ghost use Rattle.tables.specs.Tables.{entryOf};
 ghost use Rattle.frame.specs.Word.{wordOf};
 ghost use Rattle.frame.specs.Sums.{sums};
-ghost use Rattle.reader.specs.Answers.{placesOf, answer};
+ghost use Rattle.reader.specs.Answers.{answer};
 ghost use Rattle.decoding.specs.Reads.{Reads};
 ghost use Rattle.reader.specs.ByTables.{nearBy, asReceived, byEntry, mendBy};
 ghost use Rattle.reader.specs.Parts.{mended, mending};
-use crate::Flips;
 use crate::Reading;
 use crate::said;
 use crate::sums::wide;
 
+// The entry of no flips.
+const NO_FLIPS: u64 = 4095;
+
 pub(crate) struct Mended {
     pub(crate) clean: u64,
-    pub(crate) flips: Flips,
+    pub(crate) entry: u64,
     pub(crate) pad_wrong: bool,
     pub(crate) runs: u64,
 }
@@ -33,33 +36,14 @@ fn mask(e: u64) -> u64
     (0x4000_0000_0000_0000u64 >> (e / 64)) ^ (0x4000_0000_0000_0000u64 >> (e % 64))
 }
 
-// The places of an entry.
-fn flips_of(e: u64) -> Flips
-    requires { ⌜ e < 4096 ⌝ }
-    ensures { λ p. ⌜ placesOf p ≡ places e ⌝ }
-{
-    let a = e / 64;
-    let b = e % 64;
-    if b == 63 {
-        if a == 63 {
-            return Flips::Nowhere;
-        }
-        return Flips::One(a);
-    }
-    if a == 63 {
-        return Flips::One(b);
-    }
-    Flips::Two(a, b)
-}
-
-// The word w with its right pad, reached from the frame by these flips.
-fn near(frame: u64, w: u64, flips: Flips, runs: u64) -> Mended
+// The word w with its right pad, reached from the frame by the flips of an entry.
+fn near(frame: u64, w: u64, entry: u64, runs: u64) -> Mended
     requires { ⌜ w < 2 ^ 63 ⌝ }
-    ensures { λ m. ⌜ mended m ≡ nearBy frame w (placesOf flips) runs ⌝ }
+    ensures { λ m. ⌜ mended m ≡ nearBy frame w (places (entryOf entry)) runs ⌝ }
 {
     Mended {
         clean: w * 2 + (1 - w % 2),
-        flips,
+        entry,
         pad_wrong: frame % 2 == w % 2,
         runs,
     }
@@ -69,7 +53,7 @@ fn near(frame: u64, w: u64, flips: Flips, runs: u64) -> Mended
 pub(crate) fn as_received(x: u64, frame: u64) -> Mending
     ensures { λ m. ⌜ mending m ≡ asReceived x frame ⌝ }
 {
-    Mending::Near(near(frame, frame / 2, Flips::Nowhere, x / 4096))
+    Mending::Near(near(frame, frame / 2, NO_FLIPS, x / 4096))
 }
 
 // By an entry of the table of corrections, with the run sums of its flips above it.
@@ -81,17 +65,13 @@ fn by_entry(n: u64, x: u64, frame: u64) -> Mending
         return Mending::Refused(paper::NO_WORD);
     }
     let w = (frame / 2) ^ mask(e);
-    let flips = flips_of(e);
-    Mending::Near(near(frame, w, flips, (x ^ n) / 4096))
+    Mending::Near(near(frame, w, e, (x ^ n) / 4096))
 }
 
 // A frame whose word has the sums x.
 pub(crate) fn mend_by(c: &[u16; 4096], x: u64, frame: u64) -> Mending
     ensures { λ m. ⌜ mending m ≡ mendBy (now (c .entry)) x frame ⌝ }
 {
-    if x % 4096 == 0 {
-        return as_received(x, frame);
-    }
     by_entry(wide(c[(x % 4096) as usize]), x, frame)
 }
 

@@ -7,16 +7,18 @@ ghost use Rattle.reader.specs.Parts.{mended, mending};
 use crate::Flips;
 use crate::Reading;
 use crate::Word;
+use crate::flipped::check_flips_of;
+use crate::flipped::flips_of;
 use crate::mend::Mended;
 use crate::mend::Mending;
 
 // The run sums of a word whose three run bits are right.
-const ALL_RIGHT: u64 = 7;
+pub(crate) const ALL_RIGHT: u64 = 7;
 
 // The sums of a lawful word: remainder 0, and all right.
 pub(crate) const CLEAN: u64 = 0x7000;
 
-fn data_in(w: u64) -> u64
+pub(crate) fn data_in(w: u64) -> u64
     ensures { λ r. ⌜ r ≡ dataOf w ⌝ }
 {
     w / 0x8000_0000_0000 % 0x1_0000 * 0x1_0000_0000
@@ -29,10 +31,11 @@ fn lawful(m: Mended) -> Reading
     ensures { λ r. ⌜ answer r ≡ lawfulBy (mended m) ⌝ }
 {
     if m.runs == ALL_RIGHT {
-        let flips = m.flips;
+        let e = m.entry % 4096;
         return Reading::Lawful(Word {
             data: data_in(m.clean / 2),
-            flips,
+            flips: flips_of(e),
+            check_flips: check_flips_of(e),
             pad_wrong: m.pad_wrong,
         });
     }
@@ -47,6 +50,7 @@ pub(crate) fn clean(frame: u64) -> Reading
     Reading::Lawful(Word {
         data: data_in(w),
         flips: Flips::Nowhere,
+        check_flips: 0,
         pad_wrong: frame % 2 == w % 2,
     })
 }

@@ -56,6 +56,8 @@ fn show_read(bits: u64) {
             io::print_hex(STDOUT_FILENO, w.data, 12);
             let flips = w.flips;
             show_flips(flips);
+            say(b", check flips ");
+            number(w.check_flips as u64);
             if w.pad_wrong {
                 say(b", pad wrong\n");
             } else {

@@ -19,7 +19,7 @@ use Rattle.decoding.specs.Reads.{Reads}
 use Rattle.reader.specs.declared.Flips.the-variants.{Nowhere, Two}
 use Rattle.reader.specs.declared.Reading.{Reading}
 use Rattle.reader.specs.declared.Reading.the-variants.{Lawful as Word, Refused}
-use Rattle.decoding.proofs.Demands.{one-answer, received-broken}
+use Rattle.decoding.proofs.Demands.{one-answer, read-of, received-broken}
 use Rattle.maker.specs.Answers as maker
 use Rattle.maker.specs.Makes.{tooLarge}
 use Rattle.maker.specs.declared.Making.the-variants.{Frame}
@@ -78,12 +78,12 @@ rows =
     record {
       data-0 = made 0 0x0000800040003565 refl (record { lawful = lawful-0; carries = refl; pad = refl });
       data-ones = made 0xFFFFFFFFFFFF 0xFFFF7FFFBFFFCA9A refl (record { lawful = lawful-ones; carries = refl; pad = refl });
-      two-flips = read 0x8000800040003567 (Word (record { «data» = 0; flips = Two 0 62; «pad_wrong» = false })) tt
-          (record { sent = 0x0000400020001AB2; lawful = lawful-0; flips = refl; few = lit≤ tt; carries = refl; padded = refl });
+      two-flips = read 0x8000800040003567 (Word (record { «data» = 0; flips = Two 0 62; «check_flips» = 1; «pad_wrong» = false })) tt
+          (read-of 0x8000800040003567 0x0000400020001AB2 lawful-0 (lit≤ tt));
       three-flips = read 0x000080004000356B (Refused 13) tt
           (inl (refl, bch.no-word (0x000080004000356B / 2) (lit< tt) 0 (bch.entry-of (0x000080004000356B / 2) (lit< tt)) refl));
-      wrong-pad = read 0x0000800040003564 (Word (record { «data» = 0; flips = Nowhere; «pad_wrong» = true })) tt
-          (record { sent = 0x0000400020001AB2; lawful = lawful-0; flips = refl; few = lit≤ tt; carries = refl; padded = refl });
+      wrong-pad = read 0x0000800040003564 (Word (record { «data» = 0; flips = Nowhere; «check_flips» = 0; «pad_wrong» = true })) tt
+          (read-of 0x0000800040003564 0x0000400020001AB2 lawful-0 (lit≤ tt));
       all-zeros = read 0 (Refused 14) tt (received-broken 0 (lit< tt) refl (λ q. absurd (omega (arith, q .at-16))));
       all-ones = read 0xFFFFFFFFFFFFFFFF (Refused 14) tt
           (received-broken 0xFFFFFFFFFFFFFFFF (lit< tt) refl (λ q. absurd (omega (arith, q .at-16))));
@@ -98,6 +98,6 @@ rows =
       bus-0111 = drives 0b0111 0b1000 1 refl;
       data-1234 = made 0x1234 0x00008000448D21B9 refl (record { lawful = lawful-1234; carries = refl; pad = refl });
       bytes-1234 = refl;
-      read-1234 = read 0x00008000448D21B9 (Word (record { «data» = 0x1234; flips = Nowhere; «pad_wrong» = false })) tt
-          (record { sent = 0x00004000224690DC; lawful = lawful-1234; flips = refl; few = lit≤ tt; carries = refl; padded = refl });
+      read-1234 = read 0x00008000448D21B9 (Word (record { «data» = 0x1234; flips = Nowhere; «check_flips» = 0; «pad_wrong» = false })) tt
+          (read-of 0x00008000448D21B9 0x00004000224690DC lawful-1234 (lit≤ tt));
     }

@@ -3,8 +3,8 @@
 -- ┌─────────────┬──────────────────────────────────────────────────────────────────┐
 -- │ Row C f a   │ some answer meets the contract C, and f of each that does is a   │
 -- │ makes d f   │ `maker::make` on d answers the frame f                           │
--- │ reads f a   │ `reader::read` on f answers a: data, flips and pad flag, 1 for   │
--- │             │ wrong, or the refusal                                            │
+-- │ reads f a   │ `reader::read` on f answers a: data, flips, the check flips      │
+-- │             │ among them and pad flag, 1 for wrong, or the refusal             │
 -- │ codes d a   │ `hier::make` on d answers a: the block, or the refusal           │
 -- │ decodes b a │ `hier::read` on b answers a: data and bits flipped, or the       │
 -- │             │ refusal                                                          │
@@ -56,11 +56,11 @@ pub record Rows : Type 0 where
   -- data 2^48 − 1: FFFF7FFFBFFFCA9A
   pub data-ones : makes (2 ^ 48 - 1) 0xFFFF7FFFBFFFCA9A
   -- frame 8000800040003567: data 0, flips at 0 and 62, pad right
-  pub two-flips : reads 0x8000800040003567 (gives (record { «data» = 0; places = 0 ∷ 62 ∷ []; pad = 0 }))
+  pub two-flips : reads 0x8000800040003567 (gives (record { «data» = 0; places = 0 ∷ 62 ∷ []; checks = 1; pad = 0 }))
   -- frame 000080004000356B (60, 61, 62 flipped): 13
   pub three-flips : reads 0x000080004000356B (refused 13)
   -- frame 0000800040003564: data 0, no flips, pad wrong
-  pub wrong-pad : reads 0x0000800040003564 (gives (record { «data» = 0; places = []; pad = 1 }))
+  pub wrong-pad : reads 0x0000800040003564 (gives (record { «data» = 0; places = []; checks = 0; pad = 1 }))
   -- 64 zeros; 64 ones: 14; 14
   pub all-zeros : reads 0x0000000000000000 (refused 14)
   pub all-ones : reads 0xFFFFFFFFFFFFFFFF (refused 14)
@@ -80,4 +80,4 @@ pub record Rows : Type 0 where
   -- ours, and not symmetric: data 000000001234: frame 00008000448D21B9, its eight bytes in this order, and back
   pub data-1234 : makes 0x1234 0x00008000448D21B9
   pub bytes-1234 : bytesOf (0x00008000448D21B9 ∷ []) ≡ 0x00 ∷ 0x00 ∷ 0x80 ∷ 0x00 ∷ 0x44 ∷ 0x8D ∷ 0x21 ∷ 0xB9 ∷ []
-  pub read-1234 : reads 0x00008000448D21B9 (gives (record { «data» = 0x1234; places = []; pad = 0 }))
+  pub read-1234 : reads 0x00008000448D21B9 (gives (record { «data» = 0x1234; places = []; checks = 0; pad = 0 }))

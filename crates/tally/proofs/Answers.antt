@@ -1,122 +1,157 @@
 -- The answers by their cases.
--- ┌───────────────┬────────────────────────────────────────────────────────────────┐
--- │ tests         │ the refusals, in the order of the tests                        │
--- │ few-frames    │ what the range of a state says of its frames                   │
--- │ few-pads      │ and of its wrong pads                                          │
--- │ refuse-…      │ the refusals                                                   │
--- │ accept        │ the next tally, or 11 for the lists                            │
--- │ past-told     │ lists without room: 20, where they hold verdicts and flags     │
--- │ past-new      │ and 11 where not                                               │
--- │ Taken         │ what an accepting answer tells of the state and the lists      │
--- │ taken         │ that it does                                                   │
--- │ one-answer …  │ the statements of specs/Claims.antt by these names             │
--- └───────────────┴────────────────────────────────────────────────────────────────┘
+-- ┌────────────────┬───────────────────────────────────────────────────────────────┐
+-- │ tests          │ the refusals of what is told, in the order of the tests       │
+-- │ few-frames     │ what the range of a state says of its frames                  │
+-- │ few-pads       │ of its wrong pads                                             │
+-- │ few-checks     │ and of its check flips                                        │
+-- │ refuse-…       │ the refusals                                                  │
+-- │ accept         │ the next tally, 11 for what is told, or 20 for its total      │
+-- │ past-told      │ no room: 20, where what is told is known                      │
+-- │ past-new       │ and 11 where not                                              │
+-- │ Taken          │ what an accepting answer tells of the state and of xs         │
+-- │ taken          │ that it does                                                  │
+-- │ one-answer …   │ the statements of specs/Claims.antt by these names            │
+-- └────────────────┴───────────────────────────────────────────────────────────────┘
 use mathlib.Core.Path.{_≡_, refl, sym, ap, _∙_, subst}
-use mathlib.Core.Bool.{Bool, true, false, cond, not, _&&_}
+use mathlib.Core.Bool.{Bool, true, false, cond, not, _&&_, _||_}
 use mathlib.Core.List.{List}
 use Prim.Native.Nat.{ℕ, _+_, _≤_, _<_}
 use borrow.Author.Tests.{eq-eqb, ne-eqb, eqb-true, lt-ltb, le-ltb, ltb-false, le-leb, leb-true}
-use lib.Dec.{eqb, leb}
+use lib.Dec.{eqb, ltb, leb}
 use lib.ListN.{length}
 use Rattle.paper.specs.Numbers.{unfit, outside, pastCount, mostCounted, unless}
 use Rattle.paper.specs.Answer.{Answer, gives, refused, owed}
 use Rattle.paper.proofs.Answer.{either, known-by, gives-one, never-both}
-use Rattle.tally.specs.Ranges.{isVerdict, isFlag, every, known, acceptedIn, framesIn, inRange}
+use Rattle.laws.proofs.Truth.{neither}
+use Rattle.tally.specs.Told.{Told, told}
+use Rattle.tally.specs.Ranges.{known, acceptedIn, framesIn, flipsIn, inRange}
 use Rattle.tally.specs.Fold.{after}
 use Rattle.tally.specs.Answers.{answer, howMany}
-use Rattle.tally.specs.Calls.{refusal, Adds, Sums, overfull}
-use Rattle.tally.specs.Parts.{Folds, Past}
+use Rattle.tally.specs.Calls.{refusal, unequal, Adds, Sums}
+use Rattle.tally.specs.Parts.{Alike, Folds, Past, limited}
 use Rattle.tally.specs.Claims.{OneAnswer, SomeAnswer, OneSum, StaysInRange}
 use Rattle.tally.specs.declared.Tally.{Tally}
 use Rattle.tally.specs.declared.Added.{Added}
 use Rattle.tally.specs.declared.Added.the-variants.{Next, Refused}
 use Rattle.tally.specs.declared.HowMany.{HowMany}
 use Rattle.tally.specs.declared.HowMany.the-variants as many
-use Rattle.laws.proofs.Truth.{two}
-use Rattle.tally.proofs.Steps.{counts-each, pads-few}
+use Rattle.tally.proofs.Laws.{four}
+use Rattle.tally.proofs.Steps.{told-length, counts-each, pads-few, checks-few}
 
-abbrev pub tests : Bool → Bool → Bool → Bool → ℕ
-tests equal inside told past = cond (not equal) unfit (cond (not (inside && told)) outside (cond past pastCount 0))
+abbrev pub tests : Bool → Bool → Bool → ℕ
+tests inside told past = cond (not (inside && told)) outside (cond past pastCount 0)
 
-none-first : {w u : Tally} (a b c d : Bool) → gives u ≡ owed (tests a b c d) w → (a ≡ true) × (b ≡ true) × (c ≡ true) × (d ≡ false) × (u ≡ w)
-none-first {w} {u} false b c d e = absurd (never-both u unfit e)
-none-first {w} {u} true false c d e = absurd (never-both u outside e)
-none-first {w} {u} true true false d e = absurd (never-both u outside e)
-none-first {w} {u} true true true true e = absurd (never-both u pastCount e)
-none-first {w} {u} true true true false e = (refl, refl, refl, refl, gives-one u w e)
+module _ (t : Tally) (e : inRange t ≡ true) where
+  each : (leb (framesIn t) mostCounted ≡ true) × (leb (t .«pad_wrong») (acceptedIn t) ≡ true)
+      × (leb (t .«check_flips») (flipsIn t) ≡ true) × (leb (t .«check_flips») mostCounted ≡ true)
+  each = four _ _ _ _ e
 
-pub few-frames : (t : Tally) → inRange t ≡ true → framesIn t ≤ mostCounted
-few-frames t e = leb-true (framesIn t) mostCounted (two (leb (framesIn t) mostCounted) (leb (t .«pad_wrong») (acceptedIn t)) e .0)
+  pub few-frames : framesIn t ≤ mostCounted
+  few-frames = leb-true (framesIn t) mostCounted (each .0)
 
-pub few-pads : (t : Tally) → inRange t ≡ true → t .«pad_wrong» ≤ acceptedIn t
-few-pads t e = leb-true (t .«pad_wrong») (acceptedIn t) (two (leb (framesIn t) mostCounted) (leb (t .«pad_wrong») (acceptedIn t)) e .1)
+  pub few-pads : t .«pad_wrong» ≤ acceptedIn t
+  few-pads = leb-true (t .«pad_wrong») (acceptedIn t) (each .1)
 
--- the four ways of a call
-module _ (t : Tally) (vs ps : List ℕ) where
-  pub refuse-unequal : (length vs ≡ length ps → ⊥) → Adds t vs ps (refused unfit)
+  pub few-checks : t .«check_flips» ≤ flipsIn t
+  few-checks = leb-true (t .«check_flips») (flipsIn t) (each .2)
+
+-- the ways of a call
+module _ (t : Tally) (vs ps cs : List ℕ) where
+  pub refuse-unequal : (Alike vs ps cs → ⊥) → Adds t vs ps cs (refused unfit)
   unfolding Adds
-  refuse-unequal e = simp (ne-eqb _ _ e)
+  refuse-unequal e = simp (by (eqb (length vs) (length ps)) refl)
+    where
+      by : (b : Bool) → eqb (length vs) (length ps) ≡ b → unequal vs ps cs ≡ true
+      by false p = simp p
+      by true p = simp (p, ne-eqb (length vs) (length cs) (λ q. e (eqb-true _ _ p, q)))
 
-  module _ (e : length vs ≡ length ps) where
-    pub refuse-range : inRange t ≡ false → Adds t vs ps (refused outside)
+  module _ (e : Alike vs ps cs) where
+    abbrev xs : List Told
+    xs = told vs ps cs
+
+    in-lists : (a : Answer Tally) → a ≡ owed (refusal t xs) (after t xs) → Adds t vs ps cs a
     unfolding Adds
-    refuse-range f = simp (eq-eqb _ _ e, f)
+    in-lists a p = simp (eq-eqb _ _ (e .0), eq-eqb _ _ (e .1)) p
+
+    pub refuse-range : inRange t ≡ false → Adds t vs ps cs (refused outside)
+    refuse-range f = in-lists _ (simp f)
 
     module _ (f : inRange t ≡ true) where
-      sums : known vs ps ≡ true → framesIn (after t vs ps) ≡ framesIn t + length vs
-      sums k = counts-each t vs ps (two (every isVerdict vs) (every isFlag ps) k .0)
+      sums : known xs ≡ true → framesIn (after t xs) ≡ framesIn t + length vs
+      sums k = counts-each t xs k ∙ ap (λ (n : ℕ). framesIn t + n) (told-length vs ps cs e)
 
-      pub refuse-past : (a : Answer Tally) → mostCounted < framesIn t + length vs → Past vs ps a → Adds t vs ps a
-      unfolding Adds Past
-      refuse-past a h p = p ∙ by (known vs ps) refl
+      pub refuse-past : (a : Answer Tally) → mostCounted < framesIn t + length vs → Past xs a → Adds t vs ps cs a
+      unfolding Past
+      refuse-past a h p = in-lists a (p ∙ by (known xs) refl)
         where
-          by : (b : Bool) → known vs ps ≡ b → refused (cond b pastCount outside) ≡ owed (refusal t vs ps) (after t vs ps)
-          by true k = simp (eq-eqb _ _ e, f, k, lt-ltb mostCounted (framesIn (after t vs ps)) (subst (λ (n : ℕ). mostCounted < n) (sym (sums k)) h))
-          by false k = simp (eq-eqb _ _ e, f, k)
+          by : (b : Bool) → known xs ≡ b → refused (cond b pastCount outside) ≡ owed (refusal t xs) (after t xs)
+          by true k = simp (f, k, lt-ltb mostCounted (framesIn (after t xs)) (subst (λ (n : ℕ). mostCounted < n) (sym (sums k)) h))
+          by false k = simp (f, k)
 
-      pub accept : (a : Answer Tally) → framesIn t + length vs ≤ mostCounted → Folds t vs ps a → Adds t vs ps a
-      unfolding Adds Folds
-      accept a h p = p ∙ by (known vs ps) refl
+      pub accept : (a : Answer Tally) → framesIn t + length vs ≤ mostCounted → Folds t xs a → Adds t vs ps cs (limited a)
+      unfolding Folds
+      accept a h p = in-lists (limited a) (ap limited p ∙ by (known xs) refl)
         where
-          by : (b : Bool) → known vs ps ≡ b → owed (unless outside b) (after t vs ps) ≡ owed (refusal t vs ps) (after t vs ps)
-          by true k = simp (eq-eqb _ _ e, f, k, le-ltb mostCounted (framesIn (after t vs ps)) (subst (λ (n : ℕ). n ≤ mostCounted) (sym (sums k)) h))
-          by false k = simp (eq-eqb _ _ e, f, k)
+          last : (b : Bool) (u : Tally) → cond b (refused pastCount) (gives u) ≡ owed (cond b pastCount 0) u
+          last true u = refl
+          last false u = refl
 
--- lists without room, folded from any tally: their 11, or 20
-pub past-told : (t u : Tally) (vs ps : List ℕ) → Folds t vs ps (gives u) → Past vs ps (refused pastCount)
+          by : (b : Bool) → known xs ≡ b → limited (owed (unless outside b) (after t xs)) ≡ owed (refusal t xs) (after t xs)
+          by true k =
+              simp (f, k, le-ltb mostCounted (framesIn (after t xs)) (subst (λ (n : ℕ). n ≤ mostCounted) (sym (sums k)) h))
+              (last (ltb mostCounted (after t xs .«check_flips»)) (after t xs))
+          by false k = simp (f, k)
+
+-- no room for what is told, folded from any tally: its 11, or 20
+pub past-told : (t u : Tally) (xs : List Told) → Folds t xs (gives u) → Past xs (refused pastCount)
 unfolding Folds Past
-past-told t u vs ps e = by (known vs ps) e
+past-told t u xs e = by (known xs) e
   where
-    by : (b : Bool) → gives u ≡ owed (unless outside b) (after t vs ps) → _≡_ {A = Answer Tally} (refused pastCount) (refused (cond b pastCount outside))
+    by : (b : Bool) → gives u ≡ owed (unless outside b) (after t xs)
+        → _≡_ {A = Answer Tally} (refused pastCount) (refused (cond b pastCount outside))
     by true e = refl
     by false e = absurd (never-both u outside e)
 
-pub past-new : (t : Tally) (n : ℕ) (vs ps : List ℕ) → Folds t vs ps (refused n) → Past vs ps (refused n)
+pub past-new : (t : Tally) (n : ℕ) (xs : List Told) → Folds t xs (refused n) → Past xs (refused n)
 unfolding Folds Past
-past-new t n vs ps e = by (known vs ps) e
+past-new t n xs e = by (known xs) e
   where
-    by : (b : Bool) → refused n ≡ owed (unless outside b) (after t vs ps) → _≡_ {A = Answer Tally} (refused n) (refused (cond b pastCount outside))
-    by true e = absurd (never-both (after t vs ps) n (sym e))
+    by : (b : Bool) → refused n ≡ owed (unless outside b) (after t xs)
+        → _≡_ {A = Answer Tally} (refused n) (refused (cond b pastCount outside))
+    by true e = absurd (never-both (after t xs) n (sym e))
     by false e = e
 
 -- what an accepting answer tells
-pub record Taken (t u : Tally) (vs ps : List ℕ) : Type 0 where
-  pub lengths : length vs ≡ length ps
+pub record Taken (t u : Tally) (xs : List Told) : Type 0 where
   pub range : inRange t ≡ true
-  pub told : known vs ps ≡ true
-  pub room : framesIn (after t vs ps) ≤ mostCounted
-  pub next : u ≡ after t vs ps
+  pub told : known xs ≡ true
+  pub room : framesIn (after t xs) ≤ mostCounted
+  pub total : after t xs .«check_flips» ≤ mostCounted
+  pub next : u ≡ after t xs
 
-pub taken : (t u : Tally) (vs ps : List ℕ) → Adds t vs ps (gives u) → Taken t u vs ps
+none-first : {w u : Tally} (a b c d e : Bool) → gives u ≡ owed (cond a unfit (tests b c (d || e))) w
+    → (b ≡ true) × (c ≡ true) × (d || e ≡ false) × (u ≡ w)
+none-first {w} {u} true b c d e h = absurd (never-both u unfit h)
+none-first {w} {u} false false c d e h = absurd (never-both u outside h)
+none-first {w} {u} false true false d e h = absurd (never-both u outside h)
+none-first {w} {u} false true true true e h = absurd (never-both u pastCount h)
+none-first {w} {u} false true true false true h = absurd (never-both u pastCount h)
+none-first {w} {u} false true true false false h = (refl, refl, refl, gives-one u w h)
+
+pub taken : (t u : Tally) (vs ps cs : List ℕ) → Adds t vs ps cs (gives u) → Taken t u (told vs ps cs)
 unfolding Adds
-taken t u vs ps e =
-    let z = none-first (eqb (length vs) (length ps)) (inRange t) (known vs ps) (overfull t vs ps) e in
+taken t u vs ps cs e =
+    let w = after t (told vs ps cs) in
+    let f = ltb mostCounted (framesIn w) in
+    let c = ltb mostCounted (w .«check_flips») in
+    let z = none-first (unequal vs ps cs) (inRange t) (known (told vs ps cs)) f c e in
+    let n = neither f c (z .2) in
     record {
-      lengths = eqb-true _ _ (z .0);
-      range = z .1;
-      told = z .2;
-      room = ltb-false mostCounted (framesIn (after t vs ps)) (z .3);
-      next = z .4;
+      range = z .0;
+      told = z .1;
+      room = ltb-false mostCounted (framesIn w) (n .0);
+      total = ltb-false mostCounted (w .«check_flips») (n .1);
+      next = z .3;
     }
 
 -- every answer is one of an enum's
@@ -126,7 +161,7 @@ held (refused n) = (Refused n, refl)
 
 pub some-answer : SomeAnswer
 unfolding Adds
-some-answer t vs ps = held (owed (refusal t vs ps) (after t vs ps))
+some-answer t vs ps cs = held (owed (cond (unequal vs ps cs) unfit (refusal t (told vs ps cs))) (after t (told vs ps cs)))
 
 added-one : (r s : Added) → answer r ≡ answer s → r ≡ s
 added-one = known-by answer (either Next Refused) back
@@ -137,7 +172,7 @@ added-one = known-by answer (either Next Refused) back
 
 pub one-answer : OneAnswer
 unfolding Adds
-one-answer t vs ps r s p q = added-one r s (p ∙ sym q)
+one-answer t vs ps cs r s p q = added-one r s (p ∙ sym q)
 
 sum-one : (r s : HowMany) → howMany r ≡ howMany s → r ≡ s
 sum-one = known-by howMany (either many.Frames many.Refused) back
@@ -151,7 +186,8 @@ unfolding Sums
 one-sum t r s p q = sum-one r s (p ∙ sym q)
 
 pub stays-in-range : StaysInRange
-stays-in-range t u vs ps a =
-    let k = taken t u vs ps a in
-    let p = pads-few t vs ps (few-pads t (k .range)) in
-    ap inRange (k .next) ∙ simp (le-leb _ _ (k .room), le-leb _ _ p)
+stays-in-range t u vs ps cs a =
+    let k = taken t u vs ps cs a in
+    let p = pads-few t (told vs ps cs) (k .told) (few-pads t (k .range)) in
+    let c = checks-few t (told vs ps cs) (k .told) (few-checks t (k .range)) in
+    ap inRange (k .next) ∙ simp (le-leb _ _ (k .room), le-leb _ _ p, le-leb _ _ c, le-leb _ _ (k .total))

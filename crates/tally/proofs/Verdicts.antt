@@ -1,4 +1,4 @@
--- The verdict bytes and pad flags by their cases.
+-- The verdict bytes, pad flags and check flips by their cases.
 -- ┌──────────────┬─────────────────────────────────────────────────────────────────┐
 -- │ below-three  │ what holds of 0, 1 and 2 holds of each number below 3           │
 -- │ is-accepted  │ a number below 3 is the verdict of an accepted frame            │
@@ -9,14 +9,21 @@
 -- │ flag-number  │ a pad flag counts itself                                        │
 -- │ flag-few     │ a pad flag is 1 at most                                         │
 -- │ verdict-ind  │ what holds of the five verdict bytes holds of each              │
+-- │ flips-count  │ the flips of a verdict are what it adds to those of a tally     │
+-- │ flips-few    │ a verdict has 2 flips at most                                   │
+-- │ parts        │ what is known by its parts                                      │
+-- │ at-most-two  │ and its check flips are 2 at most                               │
 -- └──────────────┴─────────────────────────────────────────────────────────────────┘
 use mathlib.Core.Path.{_≡_, refl, sym, subst}
-use mathlib.Core.Bool.{Bool, true, false, cond, _||_}
-use Prim.Native.Nat.{ℕ, zero, suc, _≤_, _<_}
+use mathlib.Core.Bool.{Bool, true, false, cond, _&&_, _||_}
+use Prim.Native.Nat.{ℕ, zero, suc, _+_, _*_, _≤_, _<_}
 use native.Mathlib.Omega.{arith}
-use borrow.Author.Tests.{ne-eqb, eqb-true}
-use lib.Dec.{eqb}
-use Rattle.tally.specs.Ranges.{accepted, isVerdict, isFlag}
+use borrow.Author.Tests.{ne-eqb, eqb-true, leb-true}
+use lib.Dec.{eqb, leb}
+use Rattle.laws.proofs.Truth.{two}
+use Rattle.tally.specs.Told.{Told}
+use Rattle.tally.specs.Ranges.{accepted, isVerdict, isFlag, flipsOf, isKnown}
+use Rattle.tally.specs.Fold.{once}
 
 pub below-three : (P : ℕ → Type 0) → P 0 → P 1 → P 2 → (v : ℕ) → v ≤ 2 → P v
 below-three P p q r zero h = p
@@ -69,3 +76,19 @@ module _ (P : ℕ → Type 0) where
       pick : (a : Bool) (k : ℕ) → P k → (a ≡ true → P v) → a || eqb v k ≡ true → P v
       pick true k p f e = f refl
       pick false k p f e = at-last v k p e
+
+pub flips-count : (v : ℕ) → isVerdict v ≡ true → flipsOf v ≡ once (eqb v 1) + 2 * once (eqb v 2)
+flips-count = verdict-ind (λ v. flipsOf v ≡ once (eqb v 1) + 2 * once (eqb v 2)) refl refl refl refl refl
+
+pub flips-few : (v : ℕ) → isVerdict v ≡ true → flipsOf v ≤ 2
+flips-few = verdict-ind (λ v. flipsOf v ≤ 2) (omega arith) (omega arith) (omega arith) (omega arith) (omega arith)
+
+pub parts : (x : Told) → isKnown x ≡ true
+    → (isVerdict (x .verdict) ≡ true) × (isFlag (x .pad) ≡ true) × (x .checks ≤ flipsOf (x .verdict))
+parts x e =
+    let a = two (isVerdict (x .verdict) && isFlag (x .pad)) (leb (x .checks) (flipsOf (x .verdict))) e in
+    let b = two (isVerdict (x .verdict)) (isFlag (x .pad)) (a .0) in
+    (b .0, b .1, leb-true (x .checks) (flipsOf (x .verdict)) (a .1))
+
+pub at-most-two : (x : Told) → isKnown x ≡ true → x .checks ≤ 2
+at-most-two x e = let k = parts x e in omega (arith, k .2, flips-few (x .verdict) (k .0))

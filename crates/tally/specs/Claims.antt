@@ -1,11 +1,14 @@
 -- What is proved beside the contracts.
 -- ┌────────────────┬────────────────────────────────────────────────────────────────┐
--- │ Call           │ a call of either form: one verdict and its flag, or lists      │
+-- │ Call           │ a call of either form: one verdict, its flag and its check     │
+-- │                │ flips, or lists                                                │
 -- │ verdictsIn c   │ its verdicts                                                   │
 -- │ flagsIn c      │ its flags                                                      │
+-- │ checksIn c     │ its check flips                                                │
+-- │ toldIn c       │ what the tally is told by it                                   │
 -- │ History t cs   │ the calls cs, one after another, take the tally t to u, and    │
--- │   vs ps u      │ vs and ps are the verdicts and flags of those accepted,        │
--- │                │ joined. A refused call leaves the tally as it was              │
+-- │   xs u         │ xs is what was told by those accepted, joined. A refused call  │
+-- │                │ leaves the tally as it was                                     │
 -- │ OneAnswer      │ no second answer fits the promise of a call                    │
 -- │ SomeAnswer     │ and one does                                                   │
 -- │ OneSum         │ no second answer fits the promise of `frames`                  │
@@ -18,7 +21,7 @@
 -- │ CountsEach     │ each verdict is one frame of the five counts                   │
 -- │ StaysInRange   │ the next tally is in its range                                 │
 -- │ ReachesInRange │ any calls from fresh end in a tally in its range               │
--- │ OutsideIsNew   │ where 11 is then only for a new verdict or flag                │
+-- │ OutsideIsNew   │ where 11 is then only for what is newly told                   │
 -- └────────────────┴────────────────────────────────────────────────────────────────┘
 use mathlib.Core.Path.{_≡_}
 use mathlib.Core.Bool.{true, false}
@@ -27,7 +30,8 @@ use Prim.Native.Nat.{ℕ, _+_}
 use lib.ListN.{length}
 use Rattle.paper.specs.Numbers.{outside}
 use Rattle.paper.specs.Answer.{gives, refused}
-use Rattle.tally.specs.Ranges.{every, isVerdict, known, framesIn, inRange}
+use Rattle.tally.specs.Told.{Told, told}
+use Rattle.tally.specs.Ranges.{known, framesIn, inRange}
 use Rattle.tally.specs.Counts.{fresh, counts}
 use Rattle.tally.specs.Fold.{after}
 use Rattle.tally.specs.Answers.{answer, howMany}
@@ -37,64 +41,69 @@ use Rattle.tally.specs.declared.Added.{Added}
 use Rattle.tally.specs.declared.HowMany.{HowMany}
 
 pub data Call : Type 0 where
-  single : (v p : ℕ) → Call
-  several : (vs ps : List ℕ) → Call
+  single : (v p c : ℕ) → Call
+  several : (vs ps cs : List ℕ) → Call
 
 abbrev pub verdictsIn : Call → List ℕ
-verdictsIn (single v p) = v ∷ []
-verdictsIn (several vs ps) = vs
+verdictsIn (single v p c) = v ∷ []
+verdictsIn (several vs ps cs) = vs
 
 abbrev pub flagsIn : Call → List ℕ
-flagsIn (single v p) = p ∷ []
-flagsIn (several vs ps) = ps
+flagsIn (single v p c) = p ∷ []
+flagsIn (several vs ps cs) = ps
 
-pub data History : Tally → List Call → List ℕ → List ℕ → Tally → Type 0 where
-  none : {t : Tally} → History t [] [] [] t
-  accepted : {t u w : Tally} {c : Call} {cs : List Call} {vs ps : List ℕ}
-      → Adds t (verdictsIn c) (flagsIn c) (gives u) → History u cs vs ps w
-      → History t (c ∷ cs) (verdictsIn c ++ vs) (flagsIn c ++ ps) w
-  declined : {t w : Tally} {c : Call} {cs : List Call} {vs ps : List ℕ} (n : ℕ)
-      → Adds t (verdictsIn c) (flagsIn c) (refused n) → History t cs vs ps w
-      → History t (c ∷ cs) vs ps w
+abbrev pub checksIn : Call → List ℕ
+checksIn (single v p c) = c ∷ []
+checksIn (several vs ps cs) = cs
+
+abbrev pub toldIn : Call → List Told
+toldIn c = told (verdictsIn c) (flagsIn c) (checksIn c)
+
+pub data History : Tally → List Call → List Told → Tally → Type 0 where
+  none : {t : Tally} → History t [] [] t
+  accepted : {t u w : Tally} {c : Call} {cs : List Call} {xs : List Told}
+      → Adds t (verdictsIn c) (flagsIn c) (checksIn c) (gives u) → History u cs xs w
+      → History t (c ∷ cs) (toldIn c ++ xs) w
+  declined : {t w : Tally} {c : Call} {cs : List Call} {xs : List Told} (n : ℕ)
+      → Adds t (verdictsIn c) (flagsIn c) (checksIn c) (refused n) → History t cs xs w
+      → History t (c ∷ cs) xs w
 
 abbrev pub OneAnswer : Type 0
-OneAnswer = (t : Tally) (vs ps : List ℕ) (r s : Added) → Adds t vs ps (answer r) → Adds t vs ps (answer s) → r ≡ s
+OneAnswer = (t : Tally) (vs ps cs : List ℕ) (r s : Added) → Adds t vs ps cs (answer r) → Adds t vs ps cs (answer s) → r ≡ s
 
 abbrev pub SomeAnswer : Type 0
-SomeAnswer = (t : Tally) (vs ps : List ℕ) → (r : Added) × Adds t vs ps (answer r)
+SomeAnswer = (t : Tally) (vs ps cs : List ℕ) → (r : Added) × Adds t vs ps cs (answer r)
 
 abbrev pub OneSum : Type 0
 OneSum = (t : Tally) (r s : HowMany) → Sums t (howMany r) → Sums t (howMany s) → r ≡ s
 
 abbrev pub CountsHistory : Type 0
-CountsHistory = (cs : List Call) (vs ps : List ℕ) (u : Tally) → History fresh cs vs ps u → u ≡ counts vs ps
+CountsHistory = (cs : List Call) (xs : List Told) (u : Tally) → History fresh cs xs u → u ≡ counts xs
 
 abbrev pub SomeHistory : Type 0
-SomeHistory = (t : Tally) (cs : List Call) → (vs : List ℕ) × (ps : List ℕ) × (u : Tally) × History t cs vs ps u
+SomeHistory = (t : Tally) (cs : List Call) → (xs : List Told) × (u : Tally) × History t cs xs u
 
 abbrev pub OneHistory : Type 0
 OneHistory =
-    (t : Tally) (cs : List Call) (vs vs′ ps ps′ : List ℕ) (u u′ : Tally)
-    → History t cs vs ps u → History t cs vs′ ps′ u′ → (vs ≡ vs′) × (ps ≡ ps′) × (u ≡ u′)
+    (t : Tally) (cs : List Call) (xs xs′ : List Told) (u u′ : Tally)
+    → History t cs xs u → History t cs xs′ u′ → (xs ≡ xs′) × (u ≡ u′)
 
 abbrev pub InPieces : Type 0
-InPieces =
-    (t : Tally) (vs ps ws qs : List ℕ) → length vs ≡ length ps
-    → after t (vs ++ ws) (ps ++ qs) ≡ after (after t vs ps) ws qs
+InPieces = (t : Tally) (xs ys : List Told) → after t (xs ++ ys) ≡ after (after t xs) ys
 
 abbrev pub FromFresh : Type 0
-FromFresh = (vs ps : List ℕ) → after fresh vs ps ≡ counts vs ps
+FromFresh = (xs : List Told) → after fresh xs ≡ counts xs
 
 abbrev pub CountsEach : Type 0
-CountsEach = (t : Tally) (vs ps : List ℕ) → every isVerdict vs ≡ true → framesIn (after t vs ps) ≡ framesIn t + length vs
+CountsEach = (t : Tally) (xs : List Told) → known xs ≡ true → framesIn (after t xs) ≡ framesIn t + length xs
 
 abbrev pub StaysInRange : Type 0
-StaysInRange = (t u : Tally) (vs ps : List ℕ) → Adds t vs ps (gives u) → inRange u ≡ true
+StaysInRange = (t u : Tally) (vs ps cs : List ℕ) → Adds t vs ps cs (gives u) → inRange u ≡ true
 
 abbrev pub ReachesInRange : Type 0
-ReachesInRange = (cs : List Call) (vs ps : List ℕ) (u : Tally) → History fresh cs vs ps u → inRange u ≡ true
+ReachesInRange = (cs : List Call) (xs : List Told) (u : Tally) → History fresh cs xs u → inRange u ≡ true
 
 abbrev pub OutsideIsNew : Type 0
 OutsideIsNew =
-    (cs : List Call) (vs ps ws qs : List ℕ) (u : Tally) → History fresh cs vs ps u
-    → refusal u ws qs ≡ outside → known ws qs ≡ false
+    (cs : List Call) (xs ys : List Told) (u : Tally) → History fresh cs xs u
+    → refusal u ys ≡ outside → known ys ≡ false

@@ -1,38 +1,43 @@
--- The counts taken over a list of verdicts and the list of their pad flags.
+-- The counts taken over a list of verdicts, with their pad flags and check flips.
 -- ┌────────────────┬────────────────────────────────────────────────────────────────┐
--- │ often v vs     │ how often v stands in vs                                       │
--- │ wrongPads vs   │ at how many places an accepted verdict stands in vs, and the   │
--- │   ps           │ flag 1 in ps                                                   │
+-- │ often v xs     │ how often the verdict v stands in xs                           │
+-- │ wrongPads xs   │ at how many places an accepted verdict stands with the flag 1  │
+-- │ allChecks xs   │ the check flips of all places together                         │
 -- │ fresh          │ the tally that has counted nothing                             │
--- │ counts vs ps   │ the tally whose numbers are these counts                       │
+-- │ counts xs      │ the tally whose numbers are these counts                       │
 -- └────────────────┴────────────────────────────────────────────────────────────────┘
 use mathlib.Core.Bool.{cond, _&&_}
 use mathlib.Core.List.{List, [], _∷_}
 use Prim.Native.Nat.{ℕ, _+_}
 use lib.Dec.{eqb}
 use Rattle.paper.specs.Numbers.{noWord, runBroken}
+use Rattle.tally.specs.Told.{Told}
 use Rattle.tally.specs.Ranges.{accepted}
 use Rattle.tally.specs.declared.Tally.{Tally}
 
-unfoldable pub often : ℕ → List ℕ → ℕ
+unfoldable pub often : ℕ → List Told → ℕ
 often v [] = 0
-often v (x ∷ xs) = cond (eqb x v) 1 0 + often v xs
+often v (x ∷ xs) = cond (eqb (x .verdict) v) 1 0 + often v xs
 
-unfoldable pub wrongPads : List ℕ → List ℕ → ℕ
-wrongPads [] ps = 0
-wrongPads (v ∷ vs) [] = 0
-wrongPads (v ∷ vs) (p ∷ ps) = cond (accepted v && eqb p 1) 1 0 + wrongPads vs ps
+unfoldable pub wrongPads : List Told → ℕ
+wrongPads [] = 0
+wrongPads (x ∷ xs) = cond (accepted (x .verdict) && eqb (x .pad) 1) 1 0 + wrongPads xs
+
+unfoldable pub allChecks : List Told → ℕ
+allChecks [] = 0
+allChecks (x ∷ xs) = x .checks + allChecks xs
 
 abbrev pub fresh : Tally
-fresh = record { clean = 0; one = 0; two = 0; «no_word» = 0; «run_broken» = 0; «pad_wrong» = 0 }
+fresh = record { clean = 0; one = 0; two = 0; «no_word» = 0; «run_broken» = 0; «pad_wrong» = 0; «check_flips» = 0 }
 
-abbrev pub counts : List ℕ → List ℕ → Tally
-counts vs ps =
+abbrev pub counts : List Told → Tally
+counts xs =
     record {
-      clean = often 0 vs;
-      one = often 1 vs;
-      two = often 2 vs;
-      «no_word» = often noWord vs;
-      «run_broken» = often runBroken vs;
-      «pad_wrong» = wrongPads vs ps;
+      clean = often 0 xs;
+      one = often 1 xs;
+      two = often 2 xs;
+      «no_word» = often noWord xs;
+      «run_broken» = often runBroken xs;
+      «pad_wrong» = wrongPads xs;
+      «check_flips» = allChecks xs;
     }

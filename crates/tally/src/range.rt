@@ -30,7 +30,13 @@ pub(crate) fn in_range(t: Tally) -> bool
     if accepted + t.no_word + t.run_broken > MOST_COUNTED {
         return false;
     }
-    t.pad_wrong <= accepted
+    if t.pad_wrong > accepted {
+        return false;
+    }
+    if t.check_flips > t.one + 2 * t.two {
+        return false;
+    }
+    t.check_flips <= MOST_COUNTED
 }
 
 pub(crate) fn frames_in(t: Tally) -> u64

@@ -1,4 +1,4 @@
--- The listing of a lane, as bytes: eight lines, each a name, a number in decimal and a line end.
+-- The listing of a lane, as bytes: nine lines, each a name, a number in decimal and a line end.
 -- ┌─────────────────┬──────────────────────────────────────────────────────────────┐
 -- │ ascii s         │ the codes of the characters of the text s                    │
 -- │ spelled k n     │ the digits of n, k at most: of a number below ten itself, of │
@@ -44,4 +44,5 @@ text u =
     ++ acceptedLines (u .tally)
     ++ refusedLines (u .tally)
     ++ line "pad-wrong " (u .tally .«pad_wrong»)
+    ++ line "check-flips " (u .tally .«check_flips»)
     ++ line "left-over " (u .left)

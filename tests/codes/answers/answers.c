@@ -1,6 +1,6 @@
 #include "answers.h"
 
-uint64_t values[6];
+uint64_t values[VALUE_COUNT];
 struct list lent, first, second;
 
 uint64_t low(uint64_t i, int bytes) { return values[i] & (((uint64_t)1 << 8 * bytes) - 1); }
@@ -60,7 +60,7 @@ int answers(void)
         first.size = length(head, SPLIT, lent.size);
         second.bytes = buffer + first.size;
         second.size = lent.size - first.size;
-        for (int i = 0; i < 6; i++)
+        for (int i = 0; i < VALUE_COUNT; i++)
             values[i] = number_at(head + VALUES + 8 * i);
         printf("%.16s", (const char *)head);
         (kind && kind < KINDS ? kinds[kind] : lane_count)();

@@ -8,7 +8,7 @@ struct list {
     uint64_t size;
 };
 
-extern uint64_t values[6];
+extern uint64_t values[VALUE_COUNT];
 extern struct list lent, first, second; // what is lent whole; its two parts
 
 uint64_t low(uint64_t i, int bytes); // the low bytes of a value

@@ -2,7 +2,7 @@
 #include "../../listing/count.h"
 #include "answers.h"
 
-enum { CLEAN, ONE, TWO, NO_WORD, RUN_BROKEN, PAD_WRONG };
+enum { CLEAN, ONE, TWO, NO_WORD, RUN_BROKEN, PAD_WRONG, CHECK_FLIPS, COUNTS };
 
 // The sum of n counts, or MOST + 1 where it is above MOST.
 static uint64_t capped_sum(const uint64_t *counts, int n)
@@ -18,8 +18,10 @@ static uint64_t capped_sum(const uint64_t *counts, int n)
 
 static int handed_in_range(void)
 {
-    uint64_t accepted = capped_sum(values, NO_WORD);
-    return capped_sum(values, PAD_WRONG) <= MOST && values[PAD_WRONG] <= accepted;
+    const uint64_t by_flip[] = {values[ONE], values[TWO], values[TWO]};
+    if (capped_sum(values, PAD_WRONG) > MOST || values[CHECK_FLIPS] > MOST)
+        return 0;
+    return values[PAD_WRONG] <= capped_sum(values, NO_WORD) && values[CHECK_FLIPS] <= capped_sum(by_flip, 3);
 }
 
 // Which count a verdict byte belongs to; -1 where it is none.
@@ -36,30 +38,37 @@ static int count_of(uint8_t verdict)
 }
 
 // Prints the counts with the new ones, or 20 where there is no room for them.
-static int print_sum(const uint64_t more[6])
+static int print_sum(const uint64_t more[COUNTS])
 {
-    if (capped_sum(more, PAD_WRONG) > MOST - capped_sum(values, PAD_WRONG)) {
+    if (capped_sum(more, PAD_WRONG) > MOST - capped_sum(values, PAD_WRONG) || more[CHECK_FLIPS] > MOST - values[CHECK_FLIPS]) {
         print_refusal(20);
         return 0;
     }
-    for (int i = 0; i < 6; i++)
+    for (int i = 0; i < COUNTS; i++)
         print(values[i] + more[i]);
+    return 1;
+}
+
+// Counts a verdict, its pad flag and its check flips; 0 where one of them is none.
+static int counted(uint64_t more[COUNTS], uint8_t verdict, uint8_t flag, uint8_t checks)
+{
+    int k = count_of(verdict), flips = k == ONE ? 1 : k == TWO ? 2 : 0;
+    if (k < 0 || flag > 1 || checks > flips)
+        return 0;
+    more[k]++;
+    more[PAD_WRONG] += k < NO_WORD && flag;
+    more[CHECK_FLIPS] += checks;
     return 1;
 }
 
 void tally_add(void)
 {
-    uint64_t more[6] = {0};
-    int refusal = first.size != second.size ? 12 : handed_in_range() ? 0 : 11;
-    for (uint64_t i = 0; !refusal && i < first.size; i++) {
-        int k = count_of(first.bytes[i]);
-        if (k < 0 || second.bytes[i] > 1) {
+    uint64_t more[COUNTS] = {0}, n = first.size, flags = low(7, 4) < second.size ? low(7, 4) : second.size;
+    const uint8_t *checks = second.bytes + flags;
+    int refusal = n != flags || n != second.size - flags ? 12 : handed_in_range() ? 0 : 11;
+    for (uint64_t i = 0; !refusal && i < n; i++)
+        if (!counted(more, first.bytes[i], second.bytes[i], checks[i]))
             refusal = 11;
-            break;
-        }
-        more[k]++;
-        more[PAD_WRONG] += k < NO_WORD && second.bytes[i];
-    }
     if (refusal)
         print_refusal(refusal);
     else
@@ -76,7 +85,7 @@ void lane_count(void)
     field();
     for (uint64_t i = 0; i + 8 <= first.size; i += 8)
         one_frame(first.bytes + i, &f);
-    const uint64_t more[6] = {f.verdict[0], f.verdict[1], f.verdict[2], f.verdict[13], f.verdict[14], f.pad_wrong};
+    const uint64_t more[COUNTS] = {f.verdict[0], f.verdict[1], f.verdict[2], f.verdict[13], f.verdict[14], f.pad_wrong, f.check_flips};
     if (print_sum(more)) {
         print(capped_sum(values, PAD_WRONG) + f.frames);
         print(first.size % 8);

@@ -11,7 +11,7 @@ static const struct {
     {"bus", bus_cases},         // every state and datum of widths 1 to 4; any width, changes about half of it, states out of range
     {"fill", fill_cases},       // every pattern; buffers about 65,536 bytes; short ones, registers and patterns out of range
     {"feed", feed_cases},       // pieces of a pattern with a few flips, from any state, in range and not; pieces about 65,536 bytes
-    {"tally", tally_cases},     // states about each limit, lists of unequal lengths, no verdicts, no flags, and all of these at once
+    {"tally", tally_cases},     // states about each limit; lists of unequal lengths, bytes that are none, no room, and all of these at once
     {"lane", lane_cases},       // the same states; pieces of frames with up to three flips, and such about 65,536 bytes
     {"capture", capture_cases}, // files and trailers about each limit, every byte of a small one, lists and outputs of any length
 };
@@ -46,7 +46,7 @@ void add(uint64_t kind, const char *name)
     put_number(head + TAKEN, next.size);
     put_number(head + LENT, lent);
     put_number(head + SPLIT, next.split ? next.split - 1 : lent);
-    for (int i = 0; i < 6; i++)
+    for (int i = 0; i < VALUE_COUNT; i++)
         put_number(head + VALUES + 8 * i, next.values[i]);
     out(head, HEAD);
     out(next.list, next.size);

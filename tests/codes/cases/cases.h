@@ -4,7 +4,7 @@
 #include "../codes.h"
 
 extern struct next {
-    uint64_t values[6], split, extra; // of the list, the length of its first part; bytes lent past those that the case brings
+    uint64_t values[VALUE_COUNT], split, extra; // of the list, the length of its first part; bytes lent past those that the case brings
     uint8_t list[LONGEST + 1];
     uint64_t size;
 } next;
@@ -12,7 +12,7 @@ extern struct next {
 void put(uint64_t byte);                   // into the list
 void split(void);                          // the first part ends here: it is the whole list, where this is not called
 void add(uint64_t kind, const char *name); // writes the case, with the values of `next`
-#define VALUES_OF(...) memcpy(next.values, (const uint64_t[6]){__VA_ARGS__}, sizeof next.values)
+#define VALUES_OF(...) memcpy(next.values, (const uint64_t[VALUE_COUNT]){__VA_ARGS__}, sizeof next.values)
 
 void seed(uint64_t number);
 uint64_t any(void);

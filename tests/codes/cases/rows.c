@@ -140,30 +140,65 @@ static void counter_rows(void)
     feed_row((struct counter){31, 0, 0, 0, 0});
 }
 
-static void tally_row(uint64_t clean, uint64_t pad_wrong, uint64_t verdict)
+// A verdict with a wrong pad and so many check flips, to a tally with some clean frames and some with two flips.
+static void tally_row(uint64_t clean, uint64_t two, uint64_t pad_wrong, uint64_t check_flips, uint64_t verdict, uint64_t checks)
 {
-    VALUES_OF(clean, 0, 0, 0, 0, pad_wrong);
+    VALUES_OF(clean, 0, two, 0, 0, pad_wrong, check_flips, 1);
     put(verdict);
     split();
     put(1);
+    put(checks);
     add(TALLY, "tally add");
+}
+
+static void check_rows(void)
+{
+    const uint64_t past_half = MOST / 2 + 1; // twice that many flips are more than the most
+    tally_row(0, 1, 0, 2, 2, 2);
+    tally_row(0, 1, 0, 2, 2, 3);
+    tally_row(0, 1, 0, 2, 1, 1);
+    tally_row(0, 1, 0, 2, 1, 2);
+    tally_row(0, 1, 0, 2, 0, 1);
+    tally_row(0, 1, 0, 2, 13, 1);
+    tally_row(0, 1, 0, 2, 14, 1);
+    tally_row(0, 1, 0, 3, 2, 0);
+    tally_row(0, past_half, 0, MOST - 1, 1, 1);
+    tally_row(0, past_half, 0, MOST - 1, 2, 2);
+    tally_row(0, past_half, 0, MOST, 2, 0);
+    tally_row(0, past_half, 0, MOST, 2, 1);
+    tally_row(0, past_half, 0, MOST, 2, 3);
+    tally_row(0, past_half, 0, MOST + 1, 0, 0);
+    put(0);
+    split();
+    put(1);
+    add(TALLY, "tally add"); // no check flips
+}
+
+static void lane_row(void)
+{
+    const uint64_t frames[] = {0x0000800040003565, 0x8000800040003567, 0x000080004000356b};
+    for (int i = 0; i < 24; i++)
+        put(frames[i / 8] >> (56 - 8 * (i % 8)));
+    add(LANE, "lane count");
 }
 
 static void tally_rows(void)
 {
-    const uint64_t frames[] = {0x0000800040003565, 0x8000800040003567, 0x000080004000356b};
     const uint64_t verdicts[] = {0, 1, 2, 13, 14, 3};
     for (int i = 0; i < 6; i++)
-        tally_row(5, 5, verdicts[i]);
-    tally_row(5, 6, 0);
-    tally_row(MOST - 1, 0, 0);
-    tally_row(MOST, 0, 0);
+        tally_row(5, 0, 5, 0, verdicts[i], 0);
+    tally_row(5, 0, 6, 0, 0, 0);
+    tally_row(MOST - 1, 0, 0, 0, 0, 0);
+    tally_row(MOST, 0, 0, 0, 0, 0);
     put(0);
     add(TALLY, "tally add");
+    check_rows();
     VALUES_OF(0);
-    for (int i = 0; i < 24; i++)
-        put(frames[i / 8] >> (56 - 8 * (i % 8)));
-    add(LANE, "lane count");
+    lane_row();
+    VALUES_OF(0, 0, MOST / 2 + 1, 0, 0, 0, MOST - 1);
+    lane_row();
+    VALUES_OF(0, 0, MOST / 2 + 1, 0, 0, 0, MOST);
+    lane_row();
     VALUES_OF(MOST);
     next.extra = 8;
     add(LANE, "lane count");

@@ -16,9 +16,12 @@ same-length c = search needs
 same-length-2 : tie.Need-same-length-2
 same-length-2 c = search needs
 
+same-length-3 : tie.Need-same-length-3
+same-length-3 c = search needs
+
 returns : tie.Need-returns
-returns c = numbered-call (c .number-of .ensures) (c .before .before .before .before .before .read-list .ensures)
+returns c = numbered-call (c .number-of .ensures) (c .before .before .before .before .before .before .before .read-list .ensures)
 
 pub bench-read-list-spec : {M : Type 1} → statement M
 bench-read-list-spec =
-    tie.close (tie.spec read-list-requires number-of-requires same-length same-length-2 returns)
+    tie.close (tie.spec read-list-requires number-of-requires same-length same-length-2 same-length-3 returns)

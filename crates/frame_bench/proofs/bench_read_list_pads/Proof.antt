@@ -19,8 +19,11 @@ same-length-2 c = search needs
 same-length-3 : tie.Need-same-length-3
 same-length-3 c = search needs
 
+same-length-4 : tie.Need-same-length-4
+same-length-4 c = search needs
+
 returns : tie.Need-returns
-returns c = numbered-call (c .number-of .ensures) (c .before .before .before .before .before .before .before .read-list-pads .ensures)
+returns c = numbered-call (c .number-of .ensures) (c .before .before .before .before .before .before .before .before .before .read-list-pads .ensures)
 
 pub bench-read-list-pads-spec : {M : Type 1} → statement M
 bench-read-list-pads-spec =
@@ -31,4 +34,5 @@ bench-read-list-pads-spec =
     same-length
     same-length-2
     same-length-3
+    same-length-4
     returns)

@@ -1,8 +1,8 @@
--- `host::lay_out` meets its contract, by `twelve`.
+-- `host::lay_out` meets its contract, by `thirteen`.
 use native.Mathlib.Omega.{arith}
 use borrow.Author.Needs.{needs}
 use lib.ListN.{length-set}
-use Rattle.host.proofs.Buffer.{twelve}
+use Rattle.host.proofs.Buffer.{thirteen}
 use Rattle.host.proofs.lay_out.Statement.{statement}
 use Rattle.host.proofs.lay_out.Tie as tie
 
@@ -33,6 +33,9 @@ flag-of-requires c κs = search needs
 slice-write-answer-4 : tie.Need-slice-write-answer-4
 slice-write-answer-4 c = simp length-set (omega arith)
 
+slice-write-answer-5 : tie.Need-slice-write-answer-5
+slice-write-answer-5 c = simp length-set (omega arith)
+
 same-length : tie.Need-same-length
 same-length c = search needs
 
@@ -42,7 +45,7 @@ returns c =
     let t = n .before .before .before in
     let a = t .before .before .before in
     rw (c .flag-of .ensures, c .before .second-of .ensures, c .before .before .first-of .ensures, n .count-of .ensures)
-    (twelve (a .args .answer .now) (t .store .last .0) (a .args .w .«data») _ _ _ _ (a .pre .0) (t .store .ensures))
+    (thirteen (a .args .answer .now) (t .store .last .0) (a .args .w .«data») _ _ _ _ _ (a .pre .0) (t .store .ensures))
 
 pub lay-out-spec : {M : Type 1} → statement M
 lay-out-spec =
@@ -57,5 +60,6 @@ lay-out-spec =
     slice-write-answer-3
     flag-of-requires
     slice-write-answer-4
+    slice-write-answer-5
     same-length
     returns)

@@ -20,9 +20,12 @@ same-length c = search needs
 same-length-2 : tie.Need-same-length-2
 same-length-2 c = search needs
 
+same-length-3 : tie.Need-same-length-3
+same-length-3 c = search needs
+
 returns : tie.Need-returns
-returns c = numbered-call (c .wide .ensures ∙ c .before .number-of .ensures) (c .before .before .before .before .before .before .read-bytes .ensures)
+returns c = numbered-call (c .wide .ensures ∙ c .before .number-of .ensures) (c .before .before .before .before .before .before .before .before .read-bytes .ensures)
 
 pub lks-frames-read-spec : {M : Type 1} → statement M
 lks-frames-read-spec =
-    tie.close (tie.spec read-bytes-requires number-of-requires wide-requires same-length same-length-2 returns)
+    tie.close (tie.spec read-bytes-requires number-of-requires wide-requires same-length same-length-2 same-length-3 returns)

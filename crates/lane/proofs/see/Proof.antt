@@ -19,11 +19,14 @@ same-length c = search needs
 same-length-2 : tie.Need-same-length-2
 same-length-2 c = search needs
 
+same-length-3 : tie.Need-same-length-3
+same-length-3 c = search needs
+
 returns : tie.Need-returns
 returns c =
-    let e = c .before .before .before .before in
-    let s = e .before .before .before .before .before in
-    let k = s .before .before .before .before in
+    let e = c .before .before .before .before .before .before in
+    let s = e .before .before .before .before .before .before in
+    let k = s .before .before .before .before .before in
     shown-of-bytes (s .before .corrections .ensures) (s .byte-sums .ensures) (k .before .args .bytes .now)
     (λ i. k .shared-slice-known .given i .fits) _ (e .see-by .ensures)
 
@@ -36,4 +39,5 @@ see-spec =
     see-by-requires
     same-length
     same-length-2
+    same-length-3
     returns)

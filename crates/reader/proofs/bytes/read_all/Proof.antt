@@ -19,13 +19,17 @@ same-length c = search needs
 same-length-2 : tie.Need-same-length-2
 same-length-2 c = search needs
 
+same-length-3 : tie.Need-same-length-3
+same-length-3 c = search needs
+
 returns : tie.Need-returns
 returns c =
-    let e = c .before .before .before .before in
-    let s = e .before .before .before .before .before in
-    let k = s .before .before .before .before in
+    let e = c .before .before .before .before .before .before in
+    let s = e .before .before .before .before .before .before in
+    let k = s .before .before .before .before .before in
+    let r = e .read-each .ensures in
     shown-of-bytes (s .before .corrections .ensures) (s .byte-sums .ensures) (k .before .args .frames .now) (λ i. k .shared-slice-known .given i .fits) _
-    (e .read-each .ensures .0, (e .read-each .ensures .1, tt))
+    (r .0, (r .1 .0, (r .1 .1, tt)))
 
 pub read-all-spec : {M : Type 1} → statement M
 read-all-spec =
@@ -36,4 +40,5 @@ read-all-spec =
     read-each-requires
     same-length
     same-length-2
+    same-length-3
     returns)

@@ -7,22 +7,36 @@ use Rattle.reader.proofs.bytes.read_bytes.Statement.{statement}
 use Rattle.reader.proofs.bytes.read_bytes.Tie as tie
 
 returns : tie.Need-returns
-returns c = call-refused 11 (simp (ne-eqb _ _ (c .if1 .taken))) (refl, (refl, tt))
+returns c = call-refused 11 (simp (ne-eqb _ _ (c .if1 .taken))) (refl, (refl, (refl, tt)))
 
 returns-2 : tie.Need-returns-2
-returns-2 c = call-refused 11 (simp (eq-eqb _ _ (c .before .if1 .left), ne-eqb _ _ (c .if2 .taken))) (refl, (refl, tt))
+returns-2 c = call-refused 11 (simp (eq-eqb _ _ (c .before .if1 .left), ne-eqb _ _ (c .if2 .taken))) (refl, (refl, (refl, tt)))
 
 returns-3 : tie.Need-returns-3
 returns-3 c =
     let q = c .before in
-    call-refused 11 (simp (eq-eqb _ _ (q .before .if1 .left), eq-eqb _ _ (q .if2 .left), lt-ltb _ _ (c .if3 .taken))) (refl, (refl, tt))
+    call-refused 11 (simp (eq-eqb _ _ (q .before .if1 .left), eq-eqb _ _ (q .if2 .left), lt-ltb _ _ (c .if3 .taken))) (refl, (refl, (refl, tt)))
 
 returns-4 : tie.Need-returns-4
 returns-4 c =
     let q = c .before in
     call-refused 11
     (simp (eq-eqb _ _ (q .before .before .if1 .left), eq-eqb _ _ (q .before .if2 .left), le-ltb _ _ (q .if3 .left), lt-ltb _ _ (c .if4 .taken)))
-    (refl, (refl, tt))
+    (refl, (refl, (refl, tt)))
+
+returns-5 : tie.Need-returns-5
+returns-5 c =
+    let k = c .before in
+    let q = k .before in
+    call-refused 11
+    (simp (
+      eq-eqb _ _ (q .before .before .if1 .left),
+      eq-eqb _ _ (q .before .if2 .left),
+      le-ltb _ _ (q .if3 .left),
+      le-ltb _ _ (k .if4 .left),
+      lt-ltb _ _ (c .if5 .taken),
+    ))
+    (refl, (refl, (refl, tt)))
 
 read-all-requires : tie.Need-read-all-requires
 read-all-requires c κs = search needs
@@ -33,13 +47,23 @@ same-length c = search needs
 same-length-2 : tie.Need-same-length-2
 same-length-2 c = search needs
 
-returns-5 : tie.Need-returns-5
-returns-5 c =
-    let r = c .before .before .before .before in
-    let k = r .before .before .before in
+same-length-3 : tie.Need-same-length-3
+same-length-3 c = search needs
+
+returns-6 : tie.Need-returns-6
+returns-6 c =
+    let r = c .before .before .before .before .before .before in
+    let l = r .before .before .before .before in
+    let k = l .before in
     let q = k .before in
     call-done
-    (simp (eq-eqb _ _ (q .before .before .if1 .left), eq-eqb _ _ (q .before .if2 .left), le-ltb _ _ (q .if3 .left), le-ltb _ _ (k .if4 .left)))
+    (simp (
+      eq-eqb _ _ (q .before .before .if1 .left),
+      eq-eqb _ _ (q .before .if2 .left),
+      le-ltb _ _ (q .if3 .left),
+      le-ltb _ _ (k .if4 .left),
+      le-ltb _ _ (l .if5 .left),
+    ))
     (r .read-all .ensures)
 
 pub read-bytes-spec : {M : Type 1} → statement M
@@ -50,7 +74,9 @@ read-bytes-spec =
     returns-2
     returns-3
     returns-4
+    returns-5
     read-all-requires
     same-length
     same-length-2
-    returns-5)
+    same-length-3
+    returns-6)

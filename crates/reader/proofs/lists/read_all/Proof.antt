@@ -22,14 +22,17 @@ same-length-2 c = search needs
 same-length-3 : tie.Need-same-length-3
 same-length-3 c = search needs
 
+same-length-4 : tie.Need-same-length-4
+same-length-4 c = search needs
+
 returns : tie.Need-returns
 returns c =
-    let e = c .before .before .before .before .before .before in
-    let s = e .before .before .before .before .before .before in
-    let k = s .before .before .before .before .before in
+    let e = c .before .before .before .before .before .before .before .before in
+    let s = e .before .before .before .before .before .before .before in
+    let k = s .before .before .before .before .before .before in
     let r = e .read-each .ensures in
     shown-by-tables (s .before .corrections .ensures) (s .byte-sums .ensures) _ (λ i h. k .shared-slice-known .given i .fits) _
-    (r .0, (r .1 .0, (r .1 .1, tt)))
+    (r .1 .1 .0, (r .0, (r .1 .0, (r .1 .1 .1, tt))))
 
 pub read-all-spec : {M : Type 1} → statement M
 read-all-spec =
@@ -41,4 +44,5 @@ read-all-spec =
     same-length
     same-length-2
     same-length-3
+    same-length-4
     returns)

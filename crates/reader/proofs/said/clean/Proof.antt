@@ -17,7 +17,7 @@ data-in-requires c κs = search needs
 returns : tie.Need-returns
 returns c =
     let f = c .before .args .frame in
-    ap (λ (d : ℕ). gives (record { «data» = d; places = []; pad = flag (eqb (f % 2) (f / 2 % 2)) }))
+    ap (λ (d : ℕ). gives (record { «data» = d; places = []; checks = 0; pad = flag (eqb (f % 2) (f / 2 % 2)) }))
     (c .data-in .ensures ∙ ap dataOf (sym (word-padded (f / 2))))
 
 pub clean-spec : {M : Type 1} → statement M

@@ -1,22 +1,30 @@
--- One count past the limit takes the sum past it.
+-- One count past the limit takes the sum past it; one test that is failed fails the whole.
 use mathlib.Core.Path.{_≡_}
-use mathlib.Core.Bool.{false}
+use mathlib.Core.Bool.{false, and-false}
 use Prim.Native.Nat.{_≤_, _<_}
 use native.Mathlib.Omega.{arith}
 use borrow.Author.Needs.{needs}
 use borrow.Author.Tests.{le-leb, lt-leb}
 use lib.Dec.{leb}
 use Rattle.paper.specs.Numbers.{mostCounted}
-use Rattle.tally.specs.Ranges.{acceptedIn, framesIn, inRange}
+use Rattle.tally.specs.Ranges.{acceptedIn, framesIn, flipsIn, inRange}
 use Rattle.tally.specs.declared.Tally.{Tally}
 use Rattle.tally.proofs.range.in_range.Statement.{statement}
 use Rattle.tally.proofs.range.in_range.Tie as tie
 
-past : (t : Tally) → mostCounted < framesIn t → false ≡ inRange t
-past t h = simp (lt-leb (framesIn t) mostCounted h)
+module _ (t : Tally) where
+  past : mostCounted < framesIn t → false ≡ inRange t
+  past h = simp (lt-leb (framesIn t) mostCounted h)
 
-within : (t : Tally) → framesIn t ≤ mostCounted → leb (t .«pad_wrong») (acceptedIn t) ≡ inRange t
-within t h = simp (le-leb (framesIn t) mostCounted h)
+  past-pads : acceptedIn t < t .«pad_wrong» → false ≡ inRange t
+  past-pads h = simp (lt-leb (t .«pad_wrong») (acceptedIn t) h, and-false)
+
+  past-checks : flipsIn t < t .«check_flips» → false ≡ inRange t
+  past-checks h = simp (lt-leb (t .«check_flips») (flipsIn t) h, and-false)
+
+  within : framesIn t ≤ mostCounted → t .«pad_wrong» ≤ acceptedIn t → t .«check_flips» ≤ flipsIn t
+      → leb (t .«check_flips») mostCounted ≡ inRange t
+  within f p c = simp (le-leb (framesIn t) mostCounted f, le-leb (t .«pad_wrong») (acceptedIn t) p, le-leb (t .«check_flips») (flipsIn t) c)
 
 returns : tie.Need-returns
 returns c = past (c .before .before .args .t) (omega arith)
@@ -52,10 +60,25 @@ returns-6 c =
     past (e .before .before .before .before .before .args .t) (omega arith)
 
 returns-7 : tie.Need-returns-7
-returns-7 c =
-    let d = c .before .before .before .before .before in
-    let e = d .before .before .before .before .before in
-    within (e .before .before .before .before .before .before .args .t) (c .before .if6 .left)
+returns-7 c = past-pads _ (c .if7 .taken)
+
+mul-if8 : tie.Need-mul-if8
+mul-if8 c = search needs
+
+add-if8 : tie.Need-add-if8
+add-if8 c = search needs
+
+returns-8 : tie.Need-returns-8
+returns-8 c =
+    let d = c .before .before .before .before .before .before .before .before .before .before in
+    let e = d .before .before .before .before .before .before .before .before .before .before in
+    past-checks (e .before .args .t) (omega arith)
+
+returns-9 : tie.Need-returns-9
+returns-9 c =
+    let d = c .before in
+    let e = d .before .before .before .before in
+    within _ (e .before .before .if6 .left) (e .if7 .left) (d .if8 .left)
 
 pub in-range-spec : {M : Type 1} → statement M
 in-range-spec =
@@ -71,4 +94,8 @@ in-range-spec =
     add-if6
     add-if6-2
     returns-6
-    returns-7)
+    returns-7
+    mul-if8
+    add-if8
+    returns-8
+    returns-9)

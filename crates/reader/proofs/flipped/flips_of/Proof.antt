@@ -1,4 +1,4 @@
--- `reader::mend::flips_of` meets its contract: 63 stands for no place.
+-- `reader::flipped::flips_of` meets its contract: 63 stands for no place.
 -- the list, by what the two tests of it say
 use mathlib.Core.Path.{_≡_, sym, ap₂}
 use mathlib.Core.Bool.{Bool}
@@ -9,8 +9,8 @@ use borrow.Author.Tests.{lt-ltb, le-ltb}
 use lib.Dec.{ltb}
 use Rattle.bch.specs.Code.{keep}
 use Rattle.bch.specs.Corrections.{places}
-use Rattle.reader.proofs.mend.flips_of.Statement.{statement}
-use Rattle.reader.proofs.mend.flips_of.Tie as tie
+use Rattle.reader.proofs.flipped.flips_of.Statement.{statement}
+use Rattle.reader.proofs.flipped.flips_of.Tie as tie
 
 kept : (e : ℕ) {s t : Bool} → ltb (e / 64) 63 ≡ s → ltb (e % 64) 63 ≡ t → keep s (e / 64) (keep t (e % 64) []) ≡ places e
 unfolding places

@@ -13,7 +13,8 @@
 -- ├─────────────────┼────┴───────────────────────────────────────────────────────────┤
 -- │ unless n b      │ 0, no refusal, where the test b is passed; n where it is not   │
 -- │ mostBytes       │ of a piece and of a buffer                                     │
--- │ mostCounted     │ the bits compared, and the frames of a tally, at most          │
+-- │ mostCounted     │ the bits compared, the frames and the check flips of a tally,  │
+-- │                 │ at most                                                        │
 -- └─────────────────┴────────────────────────────────────────────────────────────────┘
 use mathlib.Core.Bool.{Bool, true, false}
 use Prim.Native.Nat.{ℕ, _-_, _^_}

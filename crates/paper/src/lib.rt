@@ -27,7 +27,7 @@ pub const PAST_COUNT: u8 = 20;
 // Of a piece and of a buffer.
 pub const MOST_BYTES: usize = 65536;
 
-// Frames of a tally, bits of a counter: 2^53 - 1.
+// Frames and check flips of a tally, bits of a counter: 2^53 - 1.
 pub const MOST_COUNTED: u64 = 9007199254740991;
 
 // What a call answers that leaves its values in lent lists: done, or the number of the refusal.

@@ -30,14 +30,17 @@ fn flag_of(wrong: bool) -> u8
     if wrong { 1 } else { 0 }
 }
 
+// In the place of what a refused frame does not have.
+const NOTHING: u8 = 0;
+
 fn refused(n: u8) -> Sight
     ensures { λ s. ⌜ s ≡ sight (refused n) ⌝ }
 {
     Sight {
         data: 0,
         verdict: n,
-        pad: 0,
-        checks: 0,
+        pad: NOTHING,
+        checks: NOTHING,
     }
 }
 

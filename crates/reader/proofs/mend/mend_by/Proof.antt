@@ -6,6 +6,18 @@ use Rattle.reader.specs.ByTables.{byEntry}
 use Rattle.reader.proofs.mend.mend_by.Statement.{statement}
 use Rattle.reader.proofs.mend.mend_by.Tie as tie
 
+mul-wide : tie.Need-mul-wide
+mul-wide c = search needs
+
+element-copy-out-wide : tie.Need-element-copy-out-wide
+element-copy-out-wide c = search needs
+
+wide-requires : tie.Need-wide-requires
+wide-requires c κs = search needs
+
+by-entry-requires : tie.Need-by-entry-requires
+by-entry-requires c κs = search needs
+
 returns : tie.Need-returns
 returns c =
     let w = c .before in
@@ -14,4 +26,4 @@ returns c =
 
 pub mend-by-spec : {M : Type 1} → statement M
 mend-by-spec =
-    tie.close (tie.spec (search needs) (search needs) (search needs) (search needs) returns)
+    tie.close (tie.spec mul-wide element-copy-out-wide wide-requires by-entry-requires returns)

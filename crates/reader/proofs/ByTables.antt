@@ -39,7 +39,7 @@ use Rattle.tables.proofs.Tables.{frameSums, frame-sums-xor, mend-entry}
 use Rattle.tables.proofs.Grown.{byte-turn}
 use Rattle.decoding.specs.Found.{Found, flag, checkFlips}
 use Rattle.decoding.specs.Reads.{Reads}
-use Rattle.reader.specs.ByTables.{byteOf, sumsBy, Mended, nearBy, asReceived, byEntry, mendBy, clean, lawfulBy, saidBy, readBy}
+use Rattle.reader.specs.ByTables.{byteOf, sumsBy, Mended, nearBy, asReceived, byEntry, mendBy, cleanSums, lawfulBy, saidBy, readBy}
 use Rattle.reader.specs.Claims.{ByTheTables, Numbers}
 use Rattle.decoding.proofs.Demands.{mended, no-word, a-word, run-broken, received, received-broken}
 
@@ -130,25 +130,25 @@ module _ (f : ℕ) (h : f < 2 ^ 64) where
 
 -- a frame's sums decide which of both is said
 module _ (c b : List ℕ) (f x : ℕ) where
-  pub as-clean : x ≡ sumsBy b 8 f → x ≡ clean → saidBy (asReceived clean f) ≡ readBy c b f
+  pub as-clean : x ≡ sumsBy b 8 f → x ≡ cleanSums → saidBy (asReceived cleanSums f) ≡ readBy c b f
   unfolding readBy
   as-clean e z =
-      ap (λ (t : Bool). saidBy (cond t (asReceived clean f) (mendBy c (sumsBy b 8 f) f))) (sym (eq-eqb (sumsBy b 8 f) clean (sym e ∙ z)))
+      ap (λ (t : Bool). saidBy (cond t (asReceived cleanSums f) (mendBy c (sumsBy b 8 f) f))) (sym (eq-eqb (sumsBy b 8 f) cleanSums (sym e ∙ z)))
 
-  pub as-mended : (m : Answer Mended) → x ≡ sumsBy b 8 f → (x ≡ clean → ⊥) → m ≡ mendBy c x f → saidBy m ≡ readBy c b f
+  pub as-mended : (m : Answer Mended) → x ≡ sumsBy b 8 f → (x ≡ cleanSums → ⊥) → m ≡ mendBy c x f → saidBy m ≡ readBy c b f
   unfolding readBy
   as-mended m e n q =
       ap saidBy (q ∙ ap (λ (y : ℕ). mendBy c y f) e)
-      ∙ ap (λ (t : Bool). saidBy (cond t (asReceived clean f) (mendBy c (sumsBy b 8 f) f)))
-      (sym (ne-eqb (sumsBy b 8 f) clean (λ z. n (e ∙ z))))
+      ∙ ap (λ (t : Bool). saidBy (cond t (asReceived cleanSums f) (mendBy c (sumsBy b 8 f) f)))
+      (sym (ne-eqb (sumsBy b 8 f) cleanSums (λ z. n (e ∙ z))))
 
 pub by-the-tables : ByTheTables
-by-the-tables c b m t f h = by (ℕ-discrete (sums (wordOf f)) clean)
+by-the-tables c b m t f h = by (ℕ-discrete (sums (wordOf f)) cleanSums)
   where
     e : sums (wordOf f) ≡ sumsBy b 8 f
     e = sym (sums-by b t f h)
 
-    by : Dec (sums (wordOf f) ≡ clean) → Reads f (readBy c b f)
+    by : Dec (sums (wordOf f) ≡ cleanSums) → Reads f (readBy c b f)
     by (yes z) =
         subst (Reads f) (as-clean c b f (sums (wordOf f)) e z)
         (subst (λ (x : ℕ). Reads f (saidBy (asReceived x f))) z (read-received f h (ap (λ (x : ℕ). x % 4096) z)))

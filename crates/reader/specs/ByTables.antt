@@ -9,7 +9,7 @@
 -- │ byEntry n x f   │ mended by the entry n and the run sums above it; 13 for none │
 -- │ mendBy c x f    │ the word of f, whose sums are x, mended by the entry of c    │
 -- │                 │ for its remainder                                            │
--- │ clean           │ the sums of a lawful word: remainder 0, and all right        │
+-- │ cleanSums       │ the sums of a lawful word: remainder 0, and all right        │
 -- │ lawfulBy m      │ what a mended word says: 14 where its run sums are not right │
 -- │ saidBy a        │ the same, of what mending answers                            │
 -- │ readBy c b f    │ both; a frame of clean sums is not mended                    │
@@ -56,8 +56,8 @@ byEntry n x f =
 abbrev pub mendBy : List ℕ → ℕ → ℕ → Answer Mended
 mendBy c x f = byEntry (getD c (x % 4096) 0) x f
 
-abbrev pub clean : ℕ
-clean = 4096 * allRight
+abbrev pub cleanSums : ℕ
+cleanSums = 4096 * allRight
 
 abbrev pub lawfulBy : Mended → Answer Found
 lawfulBy m =
@@ -70,4 +70,4 @@ saidBy (gives m) = lawfulBy m
 saidBy (refused n) = refused n
 
 unfoldable pub readBy : List ℕ → List ℕ → ℕ → Answer Found
-readBy c b f = saidBy (cond (eqb (sumsBy b 8 f) clean) (asReceived clean f) (mendBy c (sumsBy b 8 f) f))
+readBy c b f = saidBy (cond (eqb (sumsBy b 8 f) cleanSums) (asReceived cleanSums f) (mendBy c (sumsBy b 8 f) f))

@@ -2,7 +2,7 @@
 ghost use mathlib.Core.Path.{_≡_};
 ghost use Rattle.frame.specs.Word.{dataOf};
 ghost use Rattle.reader.specs.Answers.{answer};
-ghost use Rattle.reader.specs.ByTables.{asReceived, saidBy, lawfulBy};
+ghost use Rattle.reader.specs.ByTables.{cleanSums, asReceived, saidBy, lawfulBy};
 ghost use Rattle.reader.specs.Parts.{mended, mending};
 use crate::Flips;
 use crate::Reading;
@@ -44,7 +44,7 @@ fn lawful(m: Mended) -> Reading
 
 // A lawful word as it came.
 pub(crate) fn clean(frame: u64) -> Reading
-    ensures { λ r. ⌜ answer r ≡ saidBy (asReceived 0x7000 frame) ⌝ }
+    ensures { λ r. ⌜ answer r ≡ saidBy (asReceived cleanSums frame) ⌝ }
 {
     let w = frame / 2;
     Reading::Lawful(Word {

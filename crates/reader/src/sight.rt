@@ -3,7 +3,7 @@ ghost use mathlib.Core.Path.{_≡_};
 ghost use Rattle.paper.specs.Answer.{refused};
 ghost use Rattle.decoding.specs.Found.{flag};
 ghost use Rattle.reader.specs.Answers.{sight};
-ghost use Rattle.reader.specs.ByTables.{clean, asReceived, saidBy, lawfulBy, readBy};
+ghost use Rattle.reader.specs.ByTables.{cleanSums, asReceived, saidBy, lawfulBy, readBy};
 ghost use Rattle.reader.specs.Parts.{mended, mending};
 use crate::flipped::check_flips_of;
 use crate::flipped::count_of;
@@ -46,7 +46,7 @@ fn refused(n: u8) -> Sight
 
 // A lawful word as it came.
 fn as_received(frame: u64) -> Sight
-    ensures { λ s. ⌜ s ≡ sight (saidBy (asReceived clean frame)) ⌝ }
+    ensures { λ s. ⌜ s ≡ sight (saidBy (asReceived cleanSums frame)) ⌝ }
 {
     let w = frame / 2;
     Sight {

@@ -1,6 +1,6 @@
 -- The numbers that the paper fixes for more than one crate: its refusals and its limits.
 -- ┌─────────────────┬────┬───────────────────────────────────────────────────────────┐
--- │ outside         │ 11 │ data, a state, a verdict or a flag that is none           │
+-- │ outside         │ 11 │ data, a state, a verdict, a flag or a number that is none │
 -- │ unfit           │ 12 │ lengths that do not fit                                   │
 -- │ noWord          │ 13 │ no code word within two flips                             │
 -- │ runBroken       │ 14 │ the code word within two flips has a wrong run bit        │

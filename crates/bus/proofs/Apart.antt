@@ -2,6 +2,7 @@
 -- ┌────────────────┬─────────────────────────────────────────────────┐
 -- │ apart-half     │ the lowest wire apart, and the others by halves │
 -- │ count-is-apart │ what `count_ones` of the exclusive-or counts    │
+-- │ two-bits       │ what holds of two bits, by cases                │
 -- └────────────────┴─────────────────────────────────────────────────┘
 use mathlib.Core.Path.{_≡_, refl, sym, ap, ap₂, _∙_}
 use Prim.Native.Nat.{ℕ, zero, suc, _+_, _/_, _%_, _^_, _<_}
@@ -30,10 +31,11 @@ apart-half (suc n) x y =
     ∙ add-left-comm _ _ _
     ∙ ap₂ (λ (a b : ℕ). unlike (x % 2) (y % 2) + (unlike a b + apart n (x / 2) (y / 2))) (sym (half-bit x n)) (sym (half-bit y n))
 
+pub two-bits : (P : ℕ → ℕ → Type 0) → P 0 0 → P 0 1 → P 1 0 → P 1 1 → (a b : ℕ) → a < 2 → b < 2 → P a b
+two-bits P p q r s a b h k = bit-ind (λ a. P a b) (bit-ind (P 0) p q b k) (bit-ind (P 1) r s b k) a h
+
 differ-unlike : (x y : ℕ) → differ (x % 2) (y % 2) ≡ unlike (x % 2) (y % 2)
-differ-unlike x y =
-    bit-ind (λ a. differ a (y % 2) ≡ unlike a (y % 2)) (bit-ind (λ b. b ≡ unlike 0 b) refl refl (y % 2) (bit-lt y))
-    (bit-ind (λ b. differ 1 b ≡ unlike 1 b) refl refl (y % 2) (bit-lt y)) (x % 2) (bit-lt x)
+differ-unlike x y = two-bits (λ a b. differ a b ≡ unlike a b) refl refl refl refl (x % 2) (y % 2) (bit-lt x) (bit-lt y)
 
 none : (x y : ℕ) → ones (bitXor 0 0) ≡ apart 0 x y
 unfolding ones apart

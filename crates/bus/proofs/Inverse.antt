@@ -3,6 +3,7 @@
 -- │ inverted-is  │ turned over is what is missing from all ones                     │
 -- │ inverted-lt  │ no wire is set above the width                                   │
 -- │ twice        │ turned over twice is as it was                                   │
+-- │ one-of       │ a wire differs from one of a bit and the bit turned over         │
 -- │ apart-turned │ each wire differs from one of the data and the data inverted     │
 -- └──────────────┴──────────────────────────────────────────────────────────────────┘
 use mathlib.Core.Path.{_≡_, refl, ap, ap₂, _∙_}
@@ -13,7 +14,7 @@ use lib.Pow.{mod-pow-add}
 use Rattle.laws.proofs.Xor.{bit-lt, bit-ind}
 use Rattle.laws.specs.Bits.{bit, unlike}
 use Rattle.bus.specs.Wires.{apart, inverted}
-use Rattle.bus.proofs.Apart.{apart-half}
+use Rattle.bus.proofs.Apart.{apart-half, two-bits}
 
 either : (d p : ℕ) → d < 2 → (1 - d) * p + d * p ≡ p
 either d p = bit-ind (λ d. (1 - d) * p + d * p ≡ p) (omega arith) (omega arith) d
@@ -35,11 +36,8 @@ inverted-lt w y = omega (arith, whole w y)
 pub twice : (w y : ℕ) → y < 2 ^ w → inverted w (inverted w y) ≡ y
 twice w y h = omega (arith, inverted-is w y h, inverted-is w (inverted w y) (inverted-lt w y))
 
-one-of : (x y : ℕ) → unlike (x % 2) (y % 2) + unlike (x % 2) (1 - y % 2) ≡ 1
-one-of x y =
-    bit-ind (λ a. unlike a (y % 2) + unlike a (1 - y % 2) ≡ 1)
-    (bit-ind (λ b. unlike 0 b + unlike 0 (1 - b) ≡ 1) refl refl (y % 2) (bit-lt y))
-    (bit-ind (λ b. unlike 1 b + unlike 1 (1 - b) ≡ 1) refl refl (y % 2) (bit-lt y)) (x % 2) (bit-lt x)
+pub one-of : (a b : ℕ) → a < 2 → b < 2 → unlike a b + unlike a (1 - b) ≡ 1
+one-of = two-bits (λ a b. unlike a b + unlike a (1 - b) ≡ 1) refl refl refl refl
 
 none : (x y z : ℕ) → apart 0 x y + apart 0 x z ≡ 0
 unfolding apart
@@ -57,4 +55,4 @@ apart-turned (suc w) x y h =
     let b : apart (suc w) x (inverted (suc w) y) ≡ unlike (x % 2) (1 - y % 2) + apart w (x / 2) (inverted w (y / 2)) =
     apart-half w x (inverted (suc w) y)
     ∙ ap₂ (λ (m n : ℕ). unlike (x % 2) m + apart w (x / 2) n) f g in
-    omega (arith, apart-turned w (x / 2) (y / 2) (omega arith), one-of x y)
+    omega (arith, apart-turned w (x / 2) (y / 2) (omega arith), one-of (x % 2) (y % 2) (bit-lt x) (bit-lt y))

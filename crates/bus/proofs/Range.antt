@@ -5,6 +5,7 @@
 -- │ past-wires  │ where the data wires are right, the invert wire decides           │
 -- │ is-in-range │ from the facts to the test                                        │
 -- │ shifted     │ 1 shifted by a width is 2 to that power                           │
+-- │ shifted-bit │ and so is 0 or 1 shifted by a width that many times that power    │
 -- │ undone-set  │ with the invert wire set the receiver inverts                     │
 -- └─────────────┴───────────────────────────────────────────────────────────────────┘
 use mathlib.Core.Path.{_≡_, refl, sym, _∙_, subst}
@@ -44,8 +45,11 @@ past-wires b s m l = simp (le-leb 1 (b .width) s, le-leb (b .width) 31 m, lt-ltb
 pub is-in-range : (b : Bus) → InRange b → inRange b ≡ true
 is-in-range b r = past-wires b (r .some) (r .most) (r .below) ∙ le-leb (b .invert) 1 (r .wire)
 
+pub shifted-bit : (v w : ℕ) → v ≤ 1 → w ≤ 31 → (v * 2 ^ w) % 2 ^ 32 ≡ v * 2 ^ w
+shifted-bit v w b h = shl-exact {a = v} 1 w 32 (omega arith) (omega arith)
+
 pub shifted : (w : ℕ) → w ≤ 31 → (1 * 2 ^ w) % 2 ^ 32 ≡ 2 ^ w
-shifted w h = shl-exact {a = 1} 1 w 32 (omega arith) (omega arith) ∙ one-mul (2 ^ w)
+shifted w h = shifted-bit 1 w (omega arith) h ∙ one-mul (2 ^ w)
 
 pub undone-set : (w x v : ℕ) → (v ≡ 0 → ⊥) → undone w x v ≡ inverted w x
 undone-set w x zero n = absurd (n refl)

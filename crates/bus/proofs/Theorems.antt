@@ -4,19 +4,23 @@
 -- │ begins-in-range │ a fresh state is in range                                     │
 -- │ stays-in-range  │ what is sent is in range                                      │
 -- │ undoes          │ the receiver answers the data that was sent                   │
+-- │ both-carry      │ it answers the data of both candidates                        │
+-- │ no-third        │ and of no other wires                                         │
 -- └─────────────────┴───────────────────────────────────────────────────────────────┘
-use mathlib.Core.Path.{_≡_, refl}
+use mathlib.Core.Path.{_≡_, refl, sym, ap, _∙_}
 use mathlib.Core.Bool.{Bool, true, false, cond, _&&_}
-use Prim.Native.Nat.{ℕ, _^_, _<_}
+use mathlib.Core.Logic.{_⊎_, inl, inr}
+use Prim.Native.Nat.{ℕ, zero, suc, _^_, _<_}
 use native.Mathlib.Omega.{arith}
 use Rattle.paper.proofs.Answer.{passed}
 use Rattle.laws.proofs.Truth.{two}
 use Rattle.bus.specs.declared.Bus.{Bus}
 use Rattle.bus.specs.declared.Driven.the-variants.{Now}
 use Rattle.bus.specs.declared.Received.the-variants.{Word}
-use Rattle.bus.specs.Rule.{plain, turnedOver, inRange, crowded, next, undone}
+use Rattle.bus.specs.Wires.{inverted}
+use Rattle.bus.specs.Rule.{state, plain, turnedOver, inRange, crowded, next, undone}
 use Rattle.bus.specs.Calls.{Sends}
-use Rattle.bus.specs.Claims.{BeginsInRange, StaysInRange, Undoes}
+use Rattle.bus.specs.Claims.{BeginsInRange, StaysInRange, Undoes, Carries, BothCarry, NoThird}
 use Rattle.bus.proofs.Range.{InRange, in-range, is-in-range}
 use Rattle.bus.proofs.Inverse.{inverted-lt, twice}
 use Rattle.bus.proofs.Answers.{one-receive}
@@ -52,3 +56,20 @@ undoes b n y r s p =
     let t = taken b n y s in
     let back : undone (n .width) (n .wires) (n .invert) ≡ y = rw (t .to) (sent-undone (crowded b y) (b .width) y (t .carried .below)) in
     one-receive (n .width) (n .wires) (n .invert) r (Word y) p (simp (stays-in-range b n y s, back))
+
+-- whichever candidate it is
+either-carries : (t : Bool) (w y : ℕ) → InRange (plain w y) → Carries (cond t (turnedOver w y) (plain w y)) y
+either-carries t w y r = simp (is-in-range _ (sent-range t w y r), sent-undone t w y (r .below))
+
+pub both-carry : BothCarry
+both-carry w y e = let r = in-range (plain w y) e in (either-carries false w y r, either-carries true w y r)
+
+pub no-third : NoThird
+no-third m y s =
+    let e = passed 10 (inRange m) (undone (m .width) (m .wires) (m .invert)) y s in
+    by-invert (m .width) (m .wires) (m .invert) y (in-range m (e .0)) (e .1)
+  where
+    by-invert : (w x v y : ℕ) → InRange (state w x v) → y ≡ undone w x v → (state w x v ≡ plain w y) ⊎ (state w x v ≡ turnedOver w y)
+    by-invert w x zero y r e = inl (ap (λ (d : ℕ). plain w d) (sym e))
+    by-invert w x (suc zero) y r e = inr (ap (λ (d : ℕ). state w d 1) (sym (twice w x (r .below)) ∙ ap (inverted w) (sym e)))
+    by-invert w x (suc (suc v)) y r e = absurd (omega (arith, r .wire))

@@ -1,7 +1,7 @@
 // Bus-invert: a sender that turns the data over where that changes fewer wires, and the receiver that undoes it.
 ghost use mathlib.Core.Path.{_≡_};
 ghost use mathlib.Core.Bool.{true};
-ghost use Prim.Native.Nat.{_≤_, _<_, _^_};
+ghost use Prim.Native.Nat.{_+_, _*_, _≤_, _<_, _^_};
 ghost use Rattle.bus.specs.Wires as bits;
 ghost use Rattle.bus.specs.Rule as rule;
 ghost use Rattle.bus.specs.Rule.{widest, inRange};
@@ -45,13 +45,23 @@ fn in_range(b: Bus) -> bool
     b.invert <= 1
 }
 
+// All wires of a bus as one number, the invert wire above the data wires: 32 bits at the widest.
+fn all_wires(width: u32, wires: u32, invert: u8) -> u32
+    requires { ⌜ (width ≤ widest) × (wires < 2 ^ width) × (invert ≤ 1) ⌝ }
+    ensures { λ r. ⌜ r ≡ invert * 2 ^ width + wires ⌝ }
+{
+    ((invert as u32) << width) + wires
+}
+
 // The rule by which the sender inverts.
 fn crowded(b: Bus, data: u32) -> bool
     requires { ⌜ (inRange b ≡ true) × (inRange (rule.plain (b .width) «data») ≡ true) ⌝ }
     ensures { λ r. ⌜ r ≡ rule.crowded b «data» ⌝ }
 {
-    let differing = u32::count_ones(b.wires ^ data);
-    b.width < 2 * differing
+    // Data as it is has the invert wire cleared: it is the number of all wires itself.
+    let changing = u32::count_ones(all_wires(b.width, b.wires, b.invert) ^ data);
+    // The data inverted changes the wires that it leaves.
+    b.width + 1 - changing < changing
 }
 
 fn inverted(width: u32, wires: u32) -> u32

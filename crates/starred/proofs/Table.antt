@@ -96,6 +96,7 @@ rows =
       bus-fresh = record { some = Now (state 4 0 0); meets = refl; only = λ r q. q };
       bus-0011 = drives 0b0011 0b0011 0 refl;
       bus-0111 = drives 0b0111 0b1000 1 refl;
+      bus-invert-1 = record { some = Now (state 4 0b1100 1); meets = refl; only = λ r q. q };
       data-1234 = made 0x1234 0x00008000448D21B9 refl (record { lawful = lawful-1234; carries = refl; pad = refl });
       bytes-1234 = refl;
       read-1234 = read 0x00008000448D21B9 (Word (record { «data» = 0x1234; flips = Nowhere; «check_flips» = 0; «pad_wrong» = false })) tt

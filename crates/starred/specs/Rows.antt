@@ -77,6 +77,8 @@ pub record Rows : Type 0 where
   pub bus-fresh : Row (Starts 4) driven (gives (state 4 0 0))
   pub bus-0011 : sends 0b0011 0b0011 0
   pub bus-0111 : sends 0b0111 0b1000 1
+  -- 02, Q-3: width 4, wires 0000, invert 1, data 0011 sends 1100 with invert 1
+  pub bus-invert-1 : Row (Sends (state 4 0b0000 1) 0b0011) driven (gives (state 4 0b1100 1))
   -- ours, and not symmetric: data 000000001234: frame 00008000448D21B9, its eight bytes in this order, and back
   pub data-1234 : makes 0x1234 0x00008000448D21B9
   pub bytes-1234 : bytesOf (0x00008000448D21B9 ∷ []) ≡ 0x00 ∷ 0x00 ∷ 0x80 ∷ 0x00 ∷ 0x44 ∷ 0x8D ∷ 0x21 ∷ 0xB9 ∷ []

@@ -31,13 +31,26 @@ static void print_state(uint64_t width, uint64_t wires, uint64_t invert)
     print(invert);
 }
 
-static void send(uint64_t width, const int present[32], const int data[32])
+// How many of the width + 1 wires change where the data, or its opposite, is sent.
+static int changes(uint64_t width, const int present[32], uint64_t invert, const int data[32], int opposite)
 {
-    int changed = 0;
+    int changed = invert != (uint64_t)opposite;
     for (uint64_t i = 0; i < width; i++)
-        changed += present[i] != data[i];
-    int invert = 2 * changed > (int)width;
-    print_state(width, number_of(data, invert, width), (uint64_t)invert);
+        changed += present[i] != (data[i] != opposite);
+    return changed;
+}
+
+static void send(uint64_t width, const int present[32], uint64_t invert, const int data[32])
+{
+    int sent = 0, fewest = 33;
+    for (int opposite = 0; opposite < 2; opposite++) {
+        int changed = changes(width, present, invert, data, opposite);
+        if (changed < fewest) {
+            fewest = changed;
+            sent = opposite;
+        }
+    }
+    print_state(width, number_of(data, sent, width), (uint64_t)sent);
 }
 
 void bus(void)
@@ -49,7 +62,7 @@ void bus(void)
     else
         print_refusal(11);
     if (lawful && wires_of(width, low(3, 4), data))
-        send(width, present, data);
+        send(width, present, invert, data);
     else
         print_refusal(11);
     if (lawful)

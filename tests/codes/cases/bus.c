@@ -8,7 +8,7 @@ static void bus_case(uint64_t width, uint64_t wires, uint64_t invert, uint64_t d
 
 static void small_buses(void)
 {
-    for (uint64_t width = 1; width <= 4; width++)
+    for (uint64_t width = 1; width <= 6; width++)
         for (uint64_t wires = 0; wires < 1ul << width; wires++)
             for (uint64_t invert = 0; invert < 2; invert++)
                 for (uint64_t data = 0; data < 1ul << width; data++)
@@ -19,11 +19,11 @@ static void small_buses(void)
         bus_case(1ul << i | 1, 0, 0, 0);
 }
 
-// The number with half of a width's bits turned, or one more.
+// The number with about half of a width's bits turned: just before, at and behind where the choice changes, whatever the invert wire is.
 static uint64_t half_turned(uint64_t number, uint64_t width)
 {
-    uint64_t left = width / 2 + below(2), turned = 0;
-    while (left) {
+    uint64_t left = (width - 1) / 2 + below(3), turned = 0;
+    while (left && turned != (1ul << width) - 1) {
         uint64_t bit = 1ul << below(width);
         left -= !(turned & bit);
         turned |= bit;

@@ -48,6 +48,9 @@ static void bus_rows(void)
     bus_row(4, 3, 0, 0, "bus back 0011");
     bus_row(4, 0, 0, 7, "bus send 0111");
     bus_row(4, 8, 1, 0, "bus back 0111");
+    bus_row(4, 0, 1, 3, "bus 1 send 0011");
+    bus_row(4, 12, 1, 0, "bus 1 back 0011");
+    bus_row(1, 0, 0, 1, "bus tie");
     bus_row(4, 0, 0, 16, "bus send 10000");
     bus_row(32, 0, 0, 0, "bus width 32");
 }

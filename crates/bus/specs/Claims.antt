@@ -70,7 +70,8 @@ BothTogether =
 
 abbrev pub TieAsItIs : Type 0
 TieAsItIs =
-    (b n : Bus) (y : ℕ) → Sends b y (Now n) → changes b (plain (b .width) y) ≡ changes b (turnedOver (b .width) y) → n ≡ plain (b .width) y
+    (b n : Bus) (y : ℕ) → Sends b y (Now n)
+    → changes b (plain (b .width) y) ≡ changes b (turnedOver (b .width) y) → n ≡ plain (b .width) y
 
 abbrev pub FewerOfBoth : Type 0
 FewerOfBoth =

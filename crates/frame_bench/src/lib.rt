@@ -2,7 +2,7 @@
 ghost use mathlib.Core.Path.{_≡_};
 ghost use lib.Dec.{leb};
 ghost use lib.ListN.{length};
-ghost use Rattle.paper.specs.Answer.{numberOf, numbered};
+ghost use Rattle.paper.specs.Answer.{Answer, numberOf, numbered};
 ghost use Rattle.laws.specs.Lent.{_to_, _over_};
 ghost use Rattle.filing.specs.File.{mostFrames};
 ghost use Rattle.capture.specs.Answers.{filed, answer};
@@ -11,8 +11,11 @@ ghost use Rattle.host.specs.Entries.{returned};
 ghost use Rattle.host.specs.Captures.{Returned};
 ghost use Rattle.maker.specs.Lists.{MakesList};
 ghost use Rattle.reader.specs.Lists.{ReadsList, ReadsPads, VerdictOf};
+ghost use Rattle.salvage.specs.Calls.{answer as salvage·answer, Salvages};
+ghost use Rattle.salvage.specs.declared.Counts.{Counts};
 use capture::Filed;
 use capture::Labelled;
+use salvage::Salvaged;
 
 #[no_mangle]
 pub extern "C" fn bench_read(frame: u64) -> u8
@@ -92,4 +95,26 @@ pub extern "C" fn bench_capture_read(file: &[u8], frames: &mut [u64]) -> u8
         (now (file .entry)) (numbered n) ⌝ }
 {
     number_of(capture::read(file, frames))
+}
+
+fn salvage_number(r: Salvaged) -> u8
+    ensures { λ n. ⌜ n ≡ numberOf (salvage·answer r) ⌝ }
+{
+    match r {
+        Salvaged::Done(_) => 0,
+        Salvaged::Refused(n) => n,
+    }
+}
+
+#[no_mangle]
+pub extern "C" fn bench_salvage(
+    file: &mut [u8],
+    altered: &mut [u64],
+    places: &mut [u64],
+    refused: &mut [u64],
+) -> u8
+    ensures { λ n. ⌜ ((a : Answer Counts) × (n ≡ numberOf a) × Salvages (file .entry to file .exit) (altered .entry to altered .exit)
+        (places .entry to places .exit) (refused .entry to refused .exit) a) ⌝ }
+{
+    salvage_number(salvage::salvage(file, altered, places, refused))
 }

@@ -1,0 +1,4 @@
+pub mod Fates
+pub mod Calls
+pub mod Parts
+pub mod Claims

@@ -11,23 +11,14 @@ fn filed(r: Filed) {
     }
 }
 
-// An output after the call: every byte where the case asks for it.
-fn left(head: &[u8], out: &[u8]) {
-    if octets::number(head, 8) == 1 {
-        say::bytes(out);
-    } else {
-        say::list(out);
-    }
-}
-
 fn file_numbers(head: &[u8], frames: &[u64], notes: &[u8], out: &mut [u8]) {
     filed(capture::write(fields::half(head, 6), frames, notes, out));
-    left(head, out);
+    say::left(fields::asked(head, 8), out);
 }
 
 fn file_bytes(head: &[u8], frames: &[u8], notes: &[u8], out: &mut [u8]) {
     filed(capture::write_bytes(fields::half(head, 6), frames, notes, out));
-    left(head, out);
+    say::left(fields::asked(head, 8), out);
 }
 
 fn write_numbers(head: &[u8], frames: &[u64], notes: &[u8]) {

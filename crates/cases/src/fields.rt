@@ -9,6 +9,11 @@ pub(crate) fn half(head: &[u8], i: usize) -> u32 {
     (octets::number(head, i) % 4294967296) as u32
 }
 
+// Whether every byte is to be shown.
+pub(crate) fn asked(head: &[u8], i: usize) -> bool {
+    octets::number(head, i) == 1
+}
+
 // A length, no more than the list has.
 pub(crate) fn within(head: &[u8], i: usize, list: &[u8]) -> usize
     ensures { λ r. ⌜ Counts r (now (list .entry)) ⌝ }

@@ -18,11 +18,14 @@
 //                   part's whole eights, and from its bytes. Every byte of the outputs is shown where c is 1
 // 12 capture read   lengths of the lists a, of numbers, and b, of bytes; the file is the first part: its head, its frames in either list,
 //                   its notes
+// 13 salvage        lengths of the lists a, altered, b, places, and c, refused; the file is what is lent. Every byte of file and lists is
+//                   shown where d is 1
 mod blocks;
 mod captures;
 mod copies;
 mod fields;
 mod patterns;
+mod salvages;
 mod say;
 mod tallies;
 mod wires;
@@ -53,15 +56,19 @@ fn answer(head: &[u8], list: &[u8]) {
     on_lists(octets::number(head, 2), head, &list[..m], &list[m..]);
 }
 
-// The one kind that writes to what it is lent, or another.
-fn lent(head: &[u8], list: &mut [u8]) {
+// The two kinds that write to what they are lent, or another.
+fn lent(kind: u64, head: &[u8], list: &mut [u8]) {
+    match kind {
+        7 => patterns::fill(head, list),
+        13 => salvages::salvage(head, list),
+        _ => answer(head, list),
+    }
+}
+
+fn named(head: &[u8], list: &mut [u8]) {
     let name = io::count(16, head);
     io::write_all(STDOUT_FILENO, &head[..name]);
-    if octets::number(head, 2) == 7 {
-        patterns::fill(head, list);
-    } else {
-        answer(head, list);
-    }
+    lent(octets::number(head, 2), head, list);
 }
 
 // Whether a head was read whole.
@@ -85,7 +92,7 @@ fn turn(buffer: &mut [u8]) -> bool {
     let k = fields::within(&head, 3, buffer);
     input::load(STDIN_FILENO, &mut buffer[..k]);
     let n = fields::within(&head, 4, buffer);
-    lent(&head, &mut buffer[..n]);
+    named(&head, &mut buffer[..n]);
     io::write_all(STDOUT_FILENO, b"\n");
     true
 }

@@ -81,3 +81,30 @@ pub(crate) fn numbers(s: &[u64]) {
     }
     number(sum);
 }
+
+// Sixteen digits a number.
+fn digits(s: &[u64]) {
+    let mut at = 0;
+    while at < s.len() {
+        io::print_hex(STDOUT_FILENO, s[at], 16);
+        at += 1;
+    }
+    io::write_all(STDOUT_FILENO, b" ");
+}
+
+// What is lent, after the call: all of it, or in short.
+pub(crate) fn left(all: bool, s: &[u8]) {
+    if all {
+        bytes(s);
+    } else {
+        list(s);
+    }
+}
+
+pub(crate) fn left_numbers(all: bool, s: &[u64]) {
+    if all {
+        digits(s);
+    } else {
+        numbers(s);
+    }
+}

@@ -6,6 +6,8 @@
 -- │ TurnsTo t bs i │ what the buffer bs comes to that i became of: all of it is     │
 -- │   r            │ counted and more may follow, or its first bytes and they are   │
 -- │                │ the last, or nothing is                                        │
+-- │ Entries k is   │ the lists have the entries that k counts: is of the altered,   │
+-- │   ps rs        │ ps their places, rs of the refused                             │
 -- │ Said r         │ the status 1, where something was said on standard error. That │
 -- │                │ it is a status follows, and is stated for callers to find      │
 -- └────────────────┴────────────────────────────────────────────────────────────────┘
@@ -23,6 +25,8 @@ use Rattle.lane.specs.Calls.{CountsPiece}
 use Rattle.lane.specs.declared.Totals.{Totals}
 use Rattle.lane.specs.declared.Counted.{Counted}
 use Rattle.lane.specs.declared.Counted.the-variants as count
+use Rattle.salvage.specs.declared.Counts.{Counts as Salvage-counts}
+use Rattle.io.specs.Counts.{Counts}
 use Rattle.desk.specs.Calls.{Status}
 use Rattle.desk.specs.declared.counting.State.{State}
 use Rattle.desk.specs.declared.counting.State.the-variants.{More, Done, Unread, Refused}
@@ -39,6 +43,11 @@ abbrev pub TurnsTo : Tally → List ℕ → Input → State → Type 0
 TurnsTo t bs Full r = (c : Counted) × CountsPiece t bs (answer c) × (r ≡ stateOf c false)
 TurnsTo t bs (Last n) r = (c : Counted) × CountsPiece t (take n bs) (answer c) × (r ≡ stateOf c true)
 TurnsTo t bs Failed r = r ≡ Unread
+
+pub record Entries (k : Salvage-counts) (is ps rs : List ℕ) : Type 0 where
+  pub altered : Counts (k .altered) is
+  pub places : Counts (k .altered) ps
+  pub «refused» : Counts (k .«refused») rs
 
 abbrev pub Said : ℤ → Type 0
 Said r = (r ≡ pos 1) × Status r

@@ -3,6 +3,9 @@ ghost use Rattle.desk.specs.Calls.{Status};
 
 mod counting;
 mod listing;
+mod outcome;
+mod salvaging;
+mod saying;
 
 // All of the work is done.
 const DONE: i32 = 0;
@@ -23,4 +26,16 @@ pub extern "C" fn lks_listing() -> i32
         return listing::usage();
     }
     listing::listing_of_file()
+}
+
+// salvage IN OUT: the capture in the file IN, salvaged into the file OUT, and an account of it on standard output. `one` is not 0 where both
+// are one file, which is then not written.
+#[no_mangle]
+pub extern "C" fn lks_salvage(one: i32) -> i32
+    ensures { λ r. ⌜ Status r ⌝ }
+{
+    if os::arg_count() != 3 {
+        return salvaging::usage();
+    }
+    salvaging::salvage_of_files(one)
 }

@@ -2,28 +2,13 @@
 ghost use Rattle.desk.specs.Calls.{Status};
 ghost use Rattle.desk.specs.Parts.{Said};
 use crate::DONE;
-use crate::SAID;
 use crate::counting;
 use crate::counting::State;
+use crate::saying::cannot;
+use crate::saying::say;
+use crate::saying::show;
 use lane::Totals;
-use libc::STDERR_FILENO;
 use libc::STDOUT_FILENO;
-
-// A line on standard error: it cannot do that with this, and why, as the last call that failed tells it.
-fn cannot(do_it: &[u8], this: &[u8]) -> i32
-    ensures { λ r. ⌜ Said r ⌝ }
-{
-    io::write_all(STDERR_FILENO, do_it);
-    os::fail(this);
-    SAID
-}
-
-fn say(line: &[u8]) -> i32
-    ensures { λ r. ⌜ Said r ⌝ }
-{
-    io::write_all(STDERR_FILENO, line);
-    SAID
-}
 
 pub(crate) fn usage() -> i32
     ensures { λ r. ⌜ Said r ⌝ }
@@ -58,20 +43,6 @@ pub(crate) fn listing_of(fd: i32, name: &[u8]) -> i32
         State::More(_) => say(b"listing: the input has no end\n"),
         State::Unread => cannot(b"listing: cannot read ", name),
         State::Refused => say(b"listing: more than 2^53 - 1 frames or check flips\n"),
-    }
-}
-
-// A byte as it is shown: a control character, such as a line end, is a question mark.
-fn shown(b: u8) -> u8 {
-    if b < b' ' { b'?' } else { b }
-}
-
-// A name that stays on its line.
-fn show(name: &mut [u8]) {
-    let mut i = 0;
-    while i < name.len() {
-        name[i] = shown(name[i]);
-        i += 1;
     }
 }
 

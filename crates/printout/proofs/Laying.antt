@@ -2,10 +2,13 @@
 -- ┌──────────────┬──────────────────────────────────────────────────────────────────┐
 -- │ inlaid-none  │ before the first                                                 │
 -- │ inlaid-more  │ one byte more, stored                                            │
+-- │ front        │ what is laid over an output that has room stands at its front    │
 -- │ inlay-length │ the output keeps its length                                      │
 -- │ then         │ a piece after another is their joining                           │
 -- │ respelled    │ a part of a piece, said otherwise                                │
--- │ says         │ a listing laid from the start on is what `text` owes             │
+-- │ prints       │ bytes laid from the start on are what a call owes that prints    │
+-- │              │ them                                                             │
+-- │ says         │ and those of a listing what `text` owes                          │
 -- └──────────────┴──────────────────────────────────────────────────────────────────┘
 use mathlib.Core.Path.{_≡_, refl, sym, ap, _∙_, subst}
 use mathlib.Core.List.{List, [], _∷_, _++_, append-assoc, append-nil}
@@ -19,7 +22,7 @@ use Rattle.laws.specs.Lent.{_over_}
 use Rattle.laws.proofs.Writing.{over-length, over-more}
 use Rattle.lane.specs.declared.Totals.{Totals}
 use Rattle.wording.specs.Text.{text}
-use Rattle.printout.specs.Calls.{Says}
+use Rattle.printout.specs.Calls.{Says, Prints}
 use Rattle.printout.specs.Parts.{inlaid, Inlays}
 
 take-over : (n : ℕ) (o : List ℕ) → take n o over o ≡ o
@@ -45,7 +48,7 @@ inlaid-more at i p o h l =
     ∙ ap (λ (zs : List ℕ). zs over o) (append-assoc (take at o) (take i p) _)
     ∙ ap (λ (q : List ℕ). (take at o ++ q) over o) (sym (take-suc p i 0 l) ∙ ap (λ (n : ℕ). take n p) (sym (add-one i)))
 
-front : (ys o : List ℕ) → length ys ≤ length o → take (length ys) (ys over o) ≡ ys
+pub front : (ys o : List ℕ) → length ys ≤ length o → take (length ys) (ys over o) ≡ ys
 unfolding _over_
 front [] [] h = refl
 front [] (x ∷ o) h = refl
@@ -82,11 +85,15 @@ then {o₀} {p} {q} {o} {o′} {at} {r} {s} l h m =
     plus : at + length p + length q ≡ at + (length p + length q)
     plus = omega arith
 
-pub respelled : {o₀ o ds es : List ℕ} {at r : ℕ} (p q : List ℕ) → ds ≡ es → Inlays o₀ at (p ++ ds ++ q) r o → Inlays o₀ at (p ++ es ++ q) r o
-respelled {o₀} {o} {ds} {es} {at} {r} p q e l = subst (λ (ds : List ℕ). Inlays o₀ at (p ++ ds ++ q) r o) e l
+pub respelled : {o₀ o ds es : List ℕ} {at r : ℕ} (p : List ℕ) → ds ≡ es → Inlays o₀ at (p ++ ds) r o → Inlays o₀ at (p ++ es) r o
+respelled {o₀} {o} {ds} {es} {at} {r} p e l = subst (λ (ds : List ℕ). Inlays o₀ at (p ++ ds) r o) e l
+
+pub prints : {p o₀ o : List ℕ} {r : ℕ} → Inlays o₀ 0 p r o → r ≤ length o₀ → Prints p o₀ r o
+prints {p} {o₀} {o} {r} l h =
+    let fits : r ≤ length o = subst (λ (n : ℕ). r ≤ n) (sym (inlay-length l)) h in
+    record { size = l .after ∙ zero-add (length p); bytes = l .bytes; room = (fits, sym (length-take-le r o fits)) }
 
 pub says : {u : Totals} {o₀ o : List ℕ} {r : ℕ} → Inlays o₀ 0 (text u) r o → r ≤ length o₀ → Says u o₀ r o
-says {u} {o₀} {o} {r} l h =
-    let size : r ≡ length (text u) = l .after ∙ zero-add (length (text u)) in
-    let fits : r ≤ length o = subst (λ (n : ℕ). r ≤ n) (sym (inlay-length l)) h in
-    record { size = size; bytes = l .bytes; room = (fits, sym (length-take-le r o fits)) }
+says l h =
+    let t = prints l h in
+    record { size = t .size; bytes = t .bytes; room = t .room }

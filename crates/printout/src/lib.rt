@@ -1,4 +1,4 @@
-// The text of a listing: what is printed of the totals of a lane.
+// What is printed: the listing of a lane's totals, and the account of a salvage.
 ghost use mathlib.Core.List.{_++_};
 ghost use Prim.Native.Nat.{_+_, _≤_};
 ghost use lib.ListN.{length};
@@ -8,8 +8,15 @@ ghost use Rattle.printout.specs.Parts.{Inlays};
 use lane::Totals;
 use tally::Tally;
 
+mod account;
+
+pub use account::Step;
+pub use account::Told;
+pub use account::account_head;
+pub use account::account_line;
+
 // Puts `piece` into `out` from place `at` on, and answers the place after it.
-fn put(out: &mut [u8], at: usize, piece: &[u8]) -> usize
+pub(crate) fn put(out: &mut [u8], at: usize, piece: &[u8]) -> usize
     requires { ⌜ at + length (now piece) ≤ length (now out) ⌝ }
     ensures { λ r. ⌜ Inlays (now (out .entry)) at (now (piece .entry)) r (now (out .exit)) ⌝ }
 {
@@ -21,16 +28,25 @@ fn put(out: &mut [u8], at: usize, piece: &[u8]) -> usize
     at + i
 }
 
-// The line of n. A number has at most twenty digits.
-fn line(out: &mut [u8], at: usize, name: &[u8], n: u64) -> usize
+// A name and the digits of n, of which there are at most twenty.
+pub(crate) fn named(out: &mut [u8], at: usize, name: &[u8], n: u64) -> usize
+    requires { ⌜ at + length (now name) + 20 ≤ length (now out) ⌝ }
+    ensures { λ r. ⌜ Inlays (now (out .entry)) at (now (name .entry) ++ decimal n) r (now (out .exit)) ⌝ }
+    ensures { λ r. ⌜ r ≤ at + length (now (name .entry)) + 20 ⌝ }
+{
+    let mut digits = [0u8; 20];
+    let k = io::decimal(n, &mut digits);
+    let called = put(out, at, name);
+    put(out, called, &digits[..k])
+}
+
+// The line of n.
+pub(crate) fn line(out: &mut [u8], at: usize, name: &[u8], n: u64) -> usize
     requires { ⌜ at + length (now name) + 21 ≤ length (now out) ⌝ }
     ensures { λ r. ⌜ Inlays (now (out .entry)) at (now (name .entry) ++ decimal n ++ ascii "\n") r (now (out .exit)) ⌝ }
     ensures { λ r. ⌜ r ≤ at + length (now (name .entry)) + 21 ⌝ }
 {
-    let mut digits = [0u8; 20];
-    let k = io::decimal(n, &mut digits);
-    let named = put(out, at, name);
-    let spelled = put(out, named, &digits[..k]);
+    let spelled = named(out, at, name, n);
     put(out, spelled, b"\n")
 }
 

@@ -2,7 +2,7 @@
 use mathlib.Core.Path.{_≡_, refl, sym, ap, ap₂, _∙_, subst}
 use mathlib.Core.Bool.{Bool, true, false, not}
 use mathlib.Core.Logic.{_⊎_, inl, inr}
-use Prim.Native.Nat.{ℕ, _/_, _%_, _^_, _<_}
+use Prim.Native.Nat.{ℕ, _/_, _%_, _^_, _<_, _≤_}
 use native.Mathlib.Decide.{ℕ-discrete}
 use native.Mathlib.Nat.{zero-add, mod-lt}
 use native.Mathlib.Omega.{arith}
@@ -13,6 +13,7 @@ use lib.ListN.{length, getD}
 use Rattle.paper.specs.Answer.{Answer, gives, refused}
 use Rattle.paper.proofs.Answer.{never-both}
 use Rattle.laws.specs.Bits.{bit, unlike}
+use Rattle.laws.specs.Lent.{Lent}
 use Rattle.laws.proofs.Truth.{is-true}
 use Rattle.laws.proofs.Xor.{bit-ind, bit-lt, xor-odd, xor-cancel}
 use Rattle.frame.specs.Word.{sixteen, dataOf, FrameOf}
@@ -20,9 +21,11 @@ use Rattle.decoding.specs.Found.{Found}
 use Rattle.decoding.specs.Reads.{Reads}
 use Rattle.decoding.proofs.Demands.{one-answer}
 use Rattle.salvage.specs.Fates.{Fate, placesIn, isAltered, isRefusal, isRefused, theIndex, itsPlaces, Becomes}
+use Rattle.salvage.specs.Calls.{Salvages}
+use Rattle.salvage.specs.declared.Counts.{Counts}
 use Rattle.salvage.specs.Claims.{frameIn, Among, CountsFit, IndicesRise, OnlyAltered, ExactPlaces, OnlyRefusedTold, LawfulOrTold, AsMade, RestStays}
 use Rattle.salvage.proofs.Entries.{nobody, told-entry, apart-few}
-use Rattle.salvage.proofs.Seen.{entry-at, among-passes, passes-among, lists-rise}
+use Rattle.salvage.proofs.Seen.{lists-fit, entry-at, among-passes, passes-among, lists-rise}
 use Rattle.salvage.proofs.Ran.{fates, fates-many, after-many, in-altered, in-places, in-refused, holds-after, cleaned}
 use Rattle.salvage.proofs.Ran.{answer-at, small-at, reads-at, becomes-at, altered-there}
 
@@ -47,6 +50,11 @@ counts-fit c F A P R k s =
       fates-many s,
       apart-few isAltered isRefused (λ y. never-altered (y .answer)) (fates s) 0,
     )
+
+-- for callers that take the entries out of their lists
+pub entries-fit : (F A P R : Lent) (k : Counts) → Salvages F A P R (gives k)
+    → (k .altered ≤ length (A .is)) × (k .altered ≤ length (P .is)) × (k .«refused» ≤ length (R .is))
+entries-fit F A P R k (c, s) = (lists-fit (in-altered s), lists-fit (in-places s), lists-fit (in-refused s))
 
 pub indices-rise : IndicesRise
 indices-rise c F A P R k s = (lists-rise (in-altered s), lists-rise (in-refused s))

@@ -4,6 +4,7 @@
 -- │ Lists         │ a list of indices as a run leaves it                           │
 -- │ among-passes, │ its entries are the frames that pass its test                  │
 -- │ passes-among  │                                                                │
+-- │ lists-fit     │ its entries are in it                                          │
 -- │ entry-at      │ its entries are those that were told                           │
 -- │ frames-at     │ the frames of a file that holds a capture                      │
 -- │ fates-many …  │ of a salvaged capture: as many fates as frames, each met; room │
@@ -47,6 +48,9 @@ pub record Lists (t : Fate → Bool) (g : ℕ → Fate → ℕ) (ys : List Fate)
   pub fits : length ys ≤ length o₀
 
 module _ {t : Fate → Bool} {g : ℕ → Fate → ℕ} {ys : List Fate} {o₀ o : List ℕ} {m : ℕ} (s : Lists t g ys o₀ o m) where
+  pub lists-fit : m ≤ length o
+  lists-fit = omega (arith, told-few t g ys 0, s .many, s .fits, ap length (s .entries), over-length (told t g 0 ys) o₀)
+
   pub entry-at : (j : ℕ) → j < m → getD o j 0 ≡ getD (told t g 0 ys) j 0
   entry-at j h =
       ap (λ (l : List ℕ). getD l j 0) (s .entries ∙ over-fits (told t g 0 ys) o₀ (omega (arith, told-few t g ys 0, s .fits)))

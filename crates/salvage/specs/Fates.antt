@@ -9,12 +9,13 @@
 -- │                 │ refused                                                        │
 -- │ Fate            │ the answer to a frame, and the frame after                     │
 -- │ Meets f y       │ y is a fate of f: its answer is what the reader owes           │
+-- │ isRefusal a     │ the answer is a refusal                                        │
 -- │ isAltered y     │ the answer has places                                          │
--- │ isRefused y     │ the answer is a refusal                                        │
+-- │ isRefused y     │ the frame is refused                                           │
 -- │ told t g n ys   │ what g says of each of ys that passes the test t, in order; n  │
 -- │                 │ is the index of the first                                      │
--- │ theIndex, its   │ what the lists say: the index, and the places                  │
--- │ Places          │                                                                │
+-- │ theIndex i y,   │ what the lists say of a fate: its index i, or its places       │
+-- │ itsPlaces i y   │                                                                │
 -- │ alteredIn ys    │ the index of every altered frame                               │
 -- │ placesBeside ys │ the places of each of these                                    │
 -- │ refusedIn ys    │ the index of every refused frame                               │
@@ -51,12 +52,12 @@ pub record Meets (f : ℕ) (y : Fate) : Type 0 where
   pub reads : Reads f (y .answer)
   pub becomes : Becomes f (y .answer) (y .after)
 
-abbrev pub isAltered : Fate → Bool
-isAltered y = not (eqb (placesIn (y .answer)) 0)
-
 abbrev pub isRefusal : Answer Found → Bool
 isRefusal (gives r) = false
 isRefusal (refused n) = true
+
+abbrev pub isAltered : Fate → Bool
+isAltered y = not (eqb (placesIn (y .answer)) 0)
 
 abbrev pub isRefused : Fate → Bool
 isRefused y = isRefusal (y .answer)

@@ -9,18 +9,25 @@
 -- │   m            │                                                                 │
 -- │ Room n bs is   │ there are n frames in bs, and as much room in each list         │
 -- │   ps rs        │                                                                 │
+-- │ Within n F A P │ what is owed of the first n frames of the file F: what is left  │
+-- │   R a          │ of them, or 12 where a list is too short                        │
 -- └────────────────┴─────────────────────────────────────────────────────────────────┘
-use mathlib.Core.Bool.{Bool, cond, _||_}
+use mathlib.Core.Path.{_≡_}
+use mathlib.Core.Bool.{Bool, true, false, cond, _||_}
 use mathlib.Core.List.{List}
 use Prim.Native.Nat.{ℕ, _/_, _≤_}
 use lib.Bits.{bitXor}
 use lib.Dec.{eqb, ltb}
-use lib.ListN.{length, set}
-use Rattle.paper.specs.Answer.{Answer}
-use Rattle.radix.specs.Octets.{stored}
+use lib.ListN.{length, take, set}
+use Rattle.paper.specs.Numbers.{unfit}
+use Rattle.paper.specs.Answer.{Answer, gives, refused}
+use Rattle.laws.specs.Lent.{Lent}
+use Rattle.radix.specs.Octets.{numbersOf, stored}
 use Rattle.decoding.specs.Found.{Found}
 use Rattle.reader.specs.ByTables.{readBy}
 use Rattle.salvage.specs.Fates.{Fate, placesIn, isRefusal}
+use Rattle.salvage.specs.Calls.{Leaves, AsWere}
+use Rattle.salvage.specs.declared.Counts.{Counts}
 use Rattle.salvage.specs.declared.marks.Marks.{Marks}
 
 abbrev pub marksOf : Answer Found → Marks
@@ -43,3 +50,9 @@ pub record Room (n : ℕ) (bs is ps rs : List ℕ) : Type 0 where
   pub altered : n ≤ length is
   pub places : n ≤ length ps
   pub «refused» : n ≤ length rs
+
+abbrev pub Within : ℕ → Lent → Lent → Lent → Lent → Answer Counts → Type 0
+Within n F A P R (gives k) =
+    (anyBelow n (length (A .was)) (length (P .was)) (length (R .was)) ≡ false) × Leaves (take n (numbersOf (F .was))) F A P R k
+Within n F A P R (refused m) =
+    (m ≡ unfit) × (anyBelow n (length (A .was)) (length (P .was)) (length (R .was)) ≡ true) × AsWere F A P R

@@ -1,8 +1,10 @@
 // Salvage of a capture: each readable frame becomes its clean frame, and three lists tell what was altered, where, and what is refused.
 ghost use mathlib.Core.Path.{_≡_};
-ghost use Rattle.laws.specs.Lent.{_to_};
+ghost use Prim.Native.Nat.{_/_, _≤_};
+ghost use lib.ListN.{length};
+ghost use Rattle.laws.specs.Lent.{_to_, lent};
 ghost use Rattle.salvage.specs.Calls.{answer, Salvages};
-ghost use Rattle.salvage.specs.Parts.{anyBelow};
+ghost use Rattle.salvage.specs.Parts.{anyBelow, Within};
 use capture::Labelled;
 
 mod frames;
@@ -32,6 +34,23 @@ fn any_short(count: usize, altered: usize, places: usize, refused: usize) -> boo
     refused < count
 }
 
+// So many frames of the file, where no list is too short for them.
+fn within(
+    count: usize,
+    file: &mut [u8],
+    altered: &mut [u64],
+    places: &mut [u64],
+    refused: &mut [u64],
+) -> Salvaged
+    requires { ⌜ count ≤ length (now file) / 8 ⌝ }
+    ensures { λ r. ⌜ Within count (lent file) (lent altered) (lent places) (lent refused) (answer r) ⌝ }
+{
+    if any_short(count, altered.len(), places.len(), refused.len()) {
+        return Salvaged::Refused(paper::UNFIT);
+    }
+    Salvaged::Done(frames::all(count, file, altered, places, refused))
+}
+
 // The capture in `file`, salvaged where it stands. Each list has room for as many entries as there are frames.
 pub fn salvage(
     file: &mut [u8],
@@ -43,13 +62,7 @@ pub fn salvage(
         (refused .entry to refused .exit) (answer r) ⌝ }
 {
     match capture::head(file) {
-        Labelled::Found(h) => {
-            let count = h.count;
-            if any_short(count, altered.len(), places.len(), refused.len()) {
-                return Salvaged::Refused(paper::UNFIT);
-            }
-            Salvaged::Done(frames::all(count, file, altered, places, refused))
-        }
+        Labelled::Found(h) => within(h.count, file, altered, places, refused),
         Labelled::Refused(n) => Salvaged::Refused(n),
     }
 }

@@ -2,8 +2,10 @@
 use mathlib.Core.Path.{refl}
 use native.Mathlib.Omega.{arith}
 use Rattle.wording.specs.Text.{ascii, spelled, line, acceptedLines, refusedLines, text}
-use Rattle.wording.specs.Claims.{PapersListing, DigitsBack}
+use Rattle.wording.specs.Account.{hexSpelled, alteredLine, accountHead, nextNotice, noticeLine, firstLines, account}
+use Rattle.wording.specs.Claims.{PapersListing, DigitsBack, HexBack, AnAccount}
 use Rattle.wording.proofs.Digits.{spelled-worth}
+use Rattle.wording.proofs.Hex.{hex-spelled}
 
 pub papers-listing : PapersListing
 unfolding ascii spelled line acceptedLines refusedLines text
@@ -11,3 +13,10 @@ papers-listing = refl
 
 pub digits-back : DigitsBack
 digits-back n h = spelled-worth 20 n (omega arith)
+
+pub hex-back : HexBack
+hex-back p h = hex-spelled 16 p (omega arith)
+
+pub an-account : AnAccount
+unfolding ascii spelled line hexSpelled alteredLine accountHead nextNotice noticeLine firstLines account
+an-account = refl

@@ -1,2 +1,4 @@
 pub mod Digits
+pub mod Hex
+pub mod Notices
 pub mod Claims

@@ -4,12 +4,20 @@
 -- │ three         │ the totals of the paper's three frames                       │
 -- │ PapersListing │ the nine lines that the paper prints                         │
 -- │ DigitsBack    │ the digits of a 64-bit number are worth that number          │
+-- │ hexValue d    │ the number that a hexadecimal digit in ASCII is              │
+-- │ hexWorth ds   │ the number that such digits are                              │
+-- │ HexBack       │ the sixteen digits of a 64-bit number are worth that number  │
+-- │ AnAccount     │ the account of five frames, the first and the fourth altered │
+-- │               │ and the second refused                                       │
 -- └───────────────┴──────────────────────────────────────────────────────────────┘
 use mathlib.Core.Path.{_≡_}
-use mathlib.Core.List.{List, [], _∷_}
+use mathlib.Core.Bool.{cond}
+use mathlib.Core.List.{List, [], _∷_, foldl}
 use Prim.Native.Nat.{ℕ, _+_, _*_, _-_, _^_, _<_}
+use lib.Dec.{ltb}
 use Rattle.lane.specs.declared.Totals.{Totals}
 use Rattle.wording.specs.Text.{ascii, decimal, text}
+use Rattle.wording.specs.Account.{hex16, account}
 
 unfoldable pub worth : ℕ → List ℕ → ℕ
 worth n [] = n
@@ -29,3 +37,17 @@ PapersListing =
 
 abbrev pub DigitsBack : Type 0
 DigitsBack = (n : ℕ) → n < 2 ^ 64 → worth 0 (decimal n) ≡ n
+
+abbrev pub hexValue : ℕ → ℕ
+hexValue d = cond (ltb d 58) (d - 48) (d - 55)
+
+abbrev pub hexWorth : List ℕ → ℕ
+hexWorth ds = foldl (λ n d. n * 16 + hexValue d) 0 ds
+
+abbrev pub HexBack : Type 0
+HexBack = (p : ℕ) → p < 2 ^ 64 → hexWorth (hex16 p) ≡ p
+
+abbrev pub AnAccount : Type 0
+AnAccount =
+    account 5 (0 ∷ 3 ∷ []) ((2 ^ 63 + 2) ∷ 1 ∷ []) (1 ∷ [])
+    ≡ ascii "frames 5\naltered 2\nrefused 1\naltered 0 8000000000000002\nrefused 1\naltered 3 0000000000000001\n"

@@ -5,6 +5,8 @@ struct list lent, first, second;
 
 uint64_t low(uint64_t i, int bytes) { return values[i] & (((uint64_t)1 << 8 * bytes) - 1); }
 
+uint64_t held(uint64_t i, uint64_t most) { return low(i, 4) < most ? low(i, 4) : most; }
+
 int bit_of(const uint8_t *bytes, uint64_t i) { return bytes[i / 8] >> (7 - i % 8) & 1; }
 
 void print(uint64_t n) { printf("%lu ", n); }
@@ -16,6 +18,33 @@ void print_bytes(const uint8_t *bytes, uint64_t n)
     for (uint64_t i = 0; i < n; i++)
         printf("%02x", bytes[i]);
     putchar(' ');
+}
+
+// The sum of a list and of one number more, which goes in by its halves.
+static uint64_t with(uint64_t sum, uint64_t number)
+{
+    sum = (sum * 16777619 + number / 4294967296) % 4294967296;
+    return (sum * 16777619 + number % 4294967296) % 4294967296;
+}
+
+void print_list(const uint8_t *bytes, uint64_t n)
+{
+    uint64_t sum = n;
+    if (n <= 200) {
+        print_bytes(bytes, n);
+        return;
+    }
+    for (uint64_t i = 0; i < n; i++)
+        sum = with(sum, bytes[i]);
+    print(sum);
+}
+
+void print_numbers(const uint8_t *bytes, uint64_t n)
+{
+    uint64_t sum = n;
+    for (uint64_t i = 0; i < n; i++)
+        sum = with(sum, number_at(bytes + 8 * i));
+    print(sum);
 }
 
 static void (*const kinds[KINDS])(void) = {
@@ -31,6 +60,7 @@ static void (*const kinds[KINDS])(void) = {
     [LANE] = lane_count,
     [CAPTURE_WRITE] = capture_write,
     [CAPTURE_READ] = capture_read,
+    [SALVAGE] = salvage,
 };
 
 // Fills as much as standard input has; answers whether that is all.

@@ -11,11 +11,14 @@ struct list {
 extern uint64_t values[VALUE_COUNT];
 extern struct list lent, first, second; // what is lent whole; its two parts
 
-uint64_t low(uint64_t i, int bytes); // the low bytes of a value
+uint64_t low(uint64_t i, int bytes);      // the low bytes of a value
+uint64_t held(uint64_t i, uint64_t most); // a length of four bytes, held to a limit
 int bit_of(const uint8_t *bytes, uint64_t i);
 void print(uint64_t n);
 void print_refusal(int n);
 void print_bytes(const uint8_t *bytes, uint64_t n);
+void print_list(const uint8_t *bytes, uint64_t n);    // more than 200 by their sum
+void print_numbers(const uint8_t *bytes, uint64_t n); // eight bytes each: their sum
 
 void hier_make(void);
 void hier_read(void);
@@ -29,4 +32,5 @@ void tally_add(void);
 void lane_count(void);
 void capture_write(void);
 void capture_read(void);
+void salvage(void);
 #endif

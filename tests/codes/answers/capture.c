@@ -6,35 +6,6 @@ enum { OUTPUT = 65600, NUMBERS = 8100, BYTES = 64900 };
 
 static const uint8_t tag[4] = {0x4c, 0x43, 0x41, 0x50};
 
-static uint64_t held(uint64_t i, uint64_t most) { return low(i, 4) < most ? low(i, 4) : most; }
-
-// The sum of a list and of one number more, which goes in by its halves.
-static uint64_t with(uint64_t sum, uint64_t number)
-{
-    sum = (sum * 16777619 + number / 4294967296) % 4294967296;
-    return (sum * 16777619 + number % 4294967296) % 4294967296;
-}
-
-static void print_list(const uint8_t *bytes, uint64_t n)
-{
-    uint64_t sum = n;
-    if (n <= 200) {
-        print_bytes(bytes, n);
-        return;
-    }
-    for (uint64_t i = 0; i < n; i++)
-        sum = with(sum, bytes[i]);
-    print(sum);
-}
-
-static void print_numbers(const uint8_t *bytes, uint64_t n)
-{
-    uint64_t sum = n;
-    for (uint64_t i = 0; i < n; i++)
-        sum = with(sum, number_at(bytes + 8 * i));
-    print(sum);
-}
-
 void put_trailer(uint8_t *to, uint64_t lane, uint64_t count, uint64_t distance)
 {
     for (int i = 0; i < 4; i++) {
@@ -72,23 +43,17 @@ void capture_write(void)
     print_written(first.size % 8 ? 12 : refusal);
 }
 
-struct label {
-    int refusal;
-    uint64_t lane, count;
-};
-
-// What the first part says as a file.
-static struct label label(void)
+struct label label(struct list file)
 {
-    if (first.size > LONGEST)
+    if (file.size > LONGEST)
         return (struct label){.refusal = 12};
-    if (first.size < TRAILER)
+    if (file.size < TRAILER)
         return (struct label){.refusal = 21};
-    const uint8_t *trailer = first.bytes + first.size - TRAILER;
+    const uint8_t *trailer = file.bytes + file.size - TRAILER;
     if (memcmp(trailer, tag, sizeof tag))
         return (struct label){.refusal = 21};
     uint64_t lane = number_at(trailer) & 0xffffffff, count = number_at(trailer + 8), distance = number_at(trailer + 16);
-    if (distance != first.size - TRAILER || count > distance || 8 * count > distance)
+    if (distance != file.size - TRAILER || count > distance || 8 * count > distance)
         return (struct label){.refusal = 22};
     return (struct label){count > MOST_FRAMES ? 23 : 0, lane, count};
 }
@@ -129,7 +94,7 @@ static void read_frames(struct label l)
 
 void capture_read(void)
 {
-    struct label l = label();
+    struct label l = label(first);
     print_label(l);
     read_frames(l);
     if (l.refusal)

@@ -14,6 +14,7 @@ static const struct {
     {"tally", tally_cases},     // states about each limit; lists of unequal lengths, bytes that are none, no room, and all of these at once
     {"lane", lane_cases},       // the same states; pieces of frames with up to three flips, and such about 65,536 bytes
     {"capture", capture_cases}, // files and trailers about each limit, every byte of a small one, lists and outputs of any length
+    {"salvage", salvage_cases}, // bent frames, every pattern of two flips, still lines; files that are refused; lists of any length
 };
 
 struct next next;

@@ -32,4 +32,5 @@ void feed_cases(void);
 void tally_cases(void);
 void lane_cases(void);
 void capture_cases(void);
+void salvage_cases(void);
 #endif

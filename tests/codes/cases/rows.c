@@ -244,6 +244,43 @@ static void capture_rows(void)
     read_row(18, 0x20, 0); // a count of 2^61 + 1
 }
 
+// The bench numbers: a clean frame, flips at 0 and 62, three flips, a wrong pad; of lane 7, with a byte of notes.
+static const char bench[] = "\0\0\x80\0\x40\0\x35\x65"
+                            "\x80\0\x80\0\x40\0\x35\x67"
+                            "\0\0\x80\0\x40\0\x35\x6b"
+                            "\0\0\x80\0\x40\0\x35\x64"
+                            "!LCAP\0\0\0\7"
+                            "\0\0\0\0\0\0\0\4"
+                            "\0\0\0\0\0\0\0\41";
+
+static void salvage_row(uint64_t altered, uint64_t places, uint64_t refused)
+{
+    VALUES_OF(altered, places, refused, 1);
+    add(SALVAGE, "salvage");
+}
+
+// With one byte turned.
+static void bench_row(uint64_t byte, uint64_t by, uint64_t altered, uint64_t places, uint64_t refused)
+{
+    next.size = sizeof bench - 1;
+    memcpy(next.list, bench, next.size);
+    next.list[byte] ^= (uint8_t)by;
+    salvage_row(altered, places, refused);
+}
+
+static void salvage_rows(void)
+{
+    bench_row(0, 0, 4, 4, 5);
+    next.extra = sizeof bench - 1; // what that left
+    salvage_row(5, 4, 4);
+    bench_row(0, 0, 3, 4, 4);
+    bench_row(0, 0, 4, 3, 4);
+    bench_row(0, 0, 4, 4, 3);
+    bench_row(36, 1, 4, 4, 4);    // no tag
+    bench_row(41, 0x20, 4, 4, 4); // a count of 2^61 + 4
+    bench_row(56, 1, 0, 0, 0);    // another distance
+}
+
 void rows(void)
 {
     hier_rows();
@@ -253,4 +290,5 @@ void rows(void)
     counter_rows();
     tally_rows();
     capture_rows();
+    salvage_rows();
 }

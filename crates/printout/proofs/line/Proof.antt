@@ -1,61 +1,23 @@
--- `line` lays the name, the digits and the line end one after another.
-use mathlib.Core.Path.{_∙_}
-use mathlib.Core.List.{[], _∷_}
-use Prim.Native.Nat.{_≤_}
+-- `line` lays the line end after the name and the digits.
 use native.Mathlib.Omega.{arith}
 use borrow.Author.Needs.{needs}
-use lib.ListN.{length, take}
 use Rattle.wording.specs.Text.{ascii}
-use Rattle.printout.proofs.Laying.{then, respelled, inlay-length}
-use Rattle.wording.proofs.Digits.{twenty, spelled-least}
+use Rattle.printout.proofs.Laying.{then, inlay-length}
 use Rattle.printout.proofs.line.Statement.{statement}
 use Rattle.printout.proofs.line.Tie as tie
 
--- the digits are few
-most : (c : tie.After-decimal) → c .decimal .result ≤ 20
-most c = twenty (c .decimal .ensures .1 .0) (omega arith)
-
-few : (c : tie.After-decimal) → length (take (c .decimal .result) (c .decimal .last .1 .0)) ≤ 20
-few c = omega (arith, c .decimal .ensures .0 .1, most c)
-
-put-requires-2 : tie.Need-put-requires-2
-put-requires-2 c κs =
-    let named = c .before .before .before .before .put .ensures in
-    omega (arith, named .after, inlay-length named, few (c .before .before .before .before .before .before))
-
-put-requires-3 : tie.Need-put-requires-3
-put-requires-3 c κs =
-    let spelled = c .before .before .before .before .put2 .ensures in
-    let named = c .before .before .before .before .before .before .before .before .before .put .ensures in
-    let d = few (c .before .before .before .before .before .before .before .before .before .before .before) in
-    omega (arith, named .after, inlay-length named, spelled .after, inlay-length spelled, d)
+put-requires : tie.Need-put-requires
+put-requires c κs =
+    let (named, most) = c .before .before .before .before .named .ensures in
+    omega (arith, inlay-length named, most)
 
 returns : tie.Need-returns
 unfolding ascii
 returns c =
     let at-end = c .before .before in
-    let at-spelled = at-end .before .before .before .before .before in
-    let at-named = at-spelled .before .before .before .before .before in
-    let at-digits = at-named .before .before in
-    let d = at-digits .decimal .ensures in
-    let n = at-named .put .ensures in
-    let s = at-spelled .put2 .ensures in
-    let e = at-end .put3 .ensures in
-    let named = then n (omega (arith, n .after)) s in
-    let all = then named (omega (arith, n .after, s .after, few at-digits)) e in
-    let digits = d .1 .1 ∙ spelled-least _ 20 _ (d .1 .0) (most at-digits) in
-    (respelled (at-digits .before .before .before .before .args .name .now) (10 ∷ []) digits all, omega (arith, n .after, s .after, e .after, few at-digits))
+    let (named, most) = at-end .before .before .before .before .before .named .ensures in
+    let e = at-end .put .ensures in
+    (then named (omega (arith, most)) e, omega (arith, most, e .after))
 
 pub line-spec : {M : Type 1} → statement M
-line-spec =
-    tie.close
-    (tie.spec
-    (search needs)
-    (search needs)
-    (search needs)
-    (search needs)
-    put-requires-2
-    (search needs)
-    put-requires-3
-    (search needs)
-    returns)
+line-spec = tie.close (tie.spec (search needs) (search needs) put-requires (search needs) returns)

@@ -3,8 +3,8 @@ use mathlib.Core.Path.{_≡_}
 use Prim.Native.Nat.{_-_, _≤_}
 use borrow.Author.Needs.{needs}
 use lib.ListN.{length}
-use Rattle.desk.proofs.listing.show.Statement.{statement}
-use Rattle.desk.proofs.listing.show.Tie as tie
+use Rattle.desk.proofs.saying.show.Statement.{statement}
+use Rattle.desk.proofs.saying.show.Tie as tie
 
 abbrev Inv-loop : tie.InvT-loop
 Inv-loop name₀ i₀ name i = (i ≤ length name₀) × (length name ≡ length name₀)

@@ -2,16 +2,15 @@
 -- ┌────────────────┬─────────────────────────────────────────────────┐
 -- │ apart-half     │ the lowest wire apart, and the others by halves │
 -- │ count-is-apart │ what `count_ones` of the exclusive-or counts    │
--- │ two-bits       │ what holds of two bits, by cases                │
 -- └────────────────┴─────────────────────────────────────────────────┘
 use mathlib.Core.Path.{_≡_, refl, sym, ap, ap₂, _∙_}
 use Prim.Native.Nat.{ℕ, zero, suc, _+_, _/_, _%_, _^_, _<_}
 use native.Mathlib.Nat.{pow-suc, add-left-comm}
 use native.Mathlib.Omega.{arith}
 use lib.Pow.{shr-shr}
-use lib.Bits.{bitXor, differ}
+use lib.Bits.{bitXor}
 use lib.Count.{ones, ones-step}
-use Rattle.laws.proofs.Xor.{bit-lt, bit-ind, xor-half, xor-odd}
+use Rattle.laws.proofs.Xor.{differ-bits, xor-half, xor-odd}
 use Rattle.laws.specs.Bits.{bit, unlike}
 use Rattle.bus.specs.Wires.{apart}
 use Rattle.bus.specs.Claims.{CountIsApart}
@@ -31,12 +30,6 @@ apart-half (suc n) x y =
     ∙ add-left-comm _ _ _
     ∙ ap₂ (λ (a b : ℕ). unlike (x % 2) (y % 2) + (unlike a b + apart n (x / 2) (y / 2))) (sym (half-bit x n)) (sym (half-bit y n))
 
-pub two-bits : (P : ℕ → ℕ → Type 0) → P 0 0 → P 0 1 → P 1 0 → P 1 1 → (a b : ℕ) → a < 2 → b < 2 → P a b
-two-bits P p q r s a b h k = bit-ind (λ a. P a b) (bit-ind (P 0) p q b k) (bit-ind (P 1) r s b k) a h
-
-differ-unlike : (x y : ℕ) → differ (x % 2) (y % 2) ≡ unlike (x % 2) (y % 2)
-differ-unlike x y = two-bits (λ a b. differ a b ≡ unlike a b) refl refl refl refl (x % 2) (y % 2) (bit-lt x) (bit-lt y)
-
 none : (x y : ℕ) → ones (bitXor 0 0) ≡ apart 0 x y
 unfolding ones apart
 none x y = refl
@@ -50,5 +43,5 @@ count-is-apart (suc w) x y h k =
     let X : x / 2 < 2 ^ w = omega (arith, pow-suc 2 w) in
     let Y : y / 2 < 2 ^ w = omega (arith, pow-suc 2 w) in
     ones-step (bitXor x y)
-    ∙ ap₂ (λ (a b : ℕ). a + b) (xor-odd x y ∙ differ-unlike x y) (ap ones (xor-half x y) ∙ count-is-apart w (x / 2) (y / 2) X Y)
+    ∙ ap₂ (λ (a b : ℕ). a + b) (xor-odd x y ∙ differ-bits x y) (ap ones (xor-half x y) ∙ count-is-apart w (x / 2) (y / 2) X Y)
     ∙ sym (apart-half w x y)

@@ -11,10 +11,11 @@ use native.Mathlib.Omega.{arith}
 use lib.Bits.{bitXor, xor-block, xor-lt}
 use lib.Count.{ones, ones-cat}
 use Rattle.laws.specs.Bits.{unlike}
+use Rattle.laws.proofs.Xor.{two-bits}
 use Rattle.bus.specs.Rule.{state, plain, changes}
 use Rattle.bus.specs.Claims.{BothTogether}
 use Rattle.bus.proofs.Range.{in-range}
-use Rattle.bus.proofs.Apart.{count-is-apart, two-bits}
+use Rattle.bus.proofs.Apart.{count-is-apart}
 use Rattle.bus.proofs.Inverse.{one-of, apart-turned}
 
 ones-unlike : (v u : ℕ) → v < 2 → u < 2 → ones (bitXor v u) ≡ unlike v u

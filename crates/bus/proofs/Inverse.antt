@@ -11,10 +11,10 @@ use Prim.Native.Nat.{ℕ, zero, suc, _+_, _-_, _*_, _/_, _%_, _^_, _<_}
 use native.Mathlib.Nat.{pow-suc, mod-eq-of-lt}
 use native.Mathlib.Omega.{arith}
 use lib.Pow.{mod-pow-add}
-use Rattle.laws.proofs.Xor.{bit-lt, bit-ind}
+use Rattle.laws.proofs.Xor.{bit-lt, bit-ind, two-bits}
 use Rattle.laws.specs.Bits.{bit, unlike}
 use Rattle.bus.specs.Wires.{apart, inverted}
-use Rattle.bus.proofs.Apart.{apart-half, two-bits}
+use Rattle.bus.proofs.Apart.{apart-half}
 
 either : (d p : ℕ) → d < 2 → (1 - d) * p + d * p ≡ p
 either d p = bit-ind (λ d. (1 - d) * p + d * p ≡ p) (omega arith) (omega arith) d

@@ -5,6 +5,7 @@
 -- │ over-more     │ one place more, stored; none where the output has no such place    │
 -- │ over-past     │ one place more, which the output does not have                     │
 -- │ over-fits     │ in two parts, where there is room                                  │
+-- │ over-take     │ the first of which is what was written                             │
 -- │ shown-more    │ one place more of what a list shows of its elements                │
 -- │ shown-past    │ and where the output does not have it                              │
 -- │ map-size      │ the first i of an input, each by F, are i                          │
@@ -31,7 +32,7 @@ use native.Mathlib.Nat.{not-suc-le-zero, le-of-suc-le-suc, zero-lt-suc}
 use native.Mathlib.Numerals.{add-one}
 use native.Mathlib.Omega.{arith}
 use lib.ListN.{length, getD, take, drop, set, length-map}
-use lib.Seq.{take-all, take-suc, length-take-le}
+use lib.Seq.{take-all, take-suc, take-at, length-take-le}
 use Rattle.paper.specs.Answer.{Answer, gives, refused, owed, done, numberOf, numbered}
 use Rattle.paper.proofs.Answer.{numbered-back}
 use Rattle.laws.specs.Lent.{_over_, Each, none, next, Output, AllShow, AllAsWere, Written, Leaves, ListCall, Left}
@@ -64,6 +65,9 @@ unfolding _over_
 over-fits [] out h = over-none out
 over-fits (y ∷ ys) [] h = absurd (not-suc-le-zero h)
 over-fits (y ∷ ys) (o ∷ out) h = ap (λ (l : List ℕ). y ∷ l) (over-fits ys out (le-of-suc-le-suc h))
+
+pub over-take : (ys out : List ℕ) (n : ℕ) → n ≡ length ys → length ys ≤ length out → take n (ys over out) ≡ ys
+over-take ys out n e h = ap (take n) (over-fits ys out h) ∙ take-at ys (drop (length ys) out) n (sym e)
 
 module _ {A : Type 0} (f : A → ℕ) where
   pub shown-on : (xs : List A) (a : A) → map f (xs ++ a ∷ []) ≡ map f xs ++ f a ∷ []

@@ -2,7 +2,9 @@
 -- ┌─────────────┬──────────────────────────────────────────────────────────────────┐
 -- │ bit-lt      │ n % 2 < 2                                                        │
 -- │ bit-ind     │ what holds of 0 and of 1 holds of each digit                     │
+-- │ two-bits    │ what holds of two digits, by cases                               │
 -- │ differ-sum  │ two digits differ: their sum mod 2                               │
+-- │ differ-bits │ the last digits of two numbers differ: they are unlike           │
 -- │ xor-half    │ half of a sum                                                    │
 -- │ xor-odd     │ last digit of a sum                                              │
 -- │ xor-digit   │ one more digit on each side                                      │
@@ -18,6 +20,7 @@ use Prim.Native.Nat.{ℕ, zero, suc, _+_, _*_, _/_, _%_, _<_}
 use native.Mathlib.Nat.{mod-lt, not-suc-le-zero, le-of-suc-le-suc, zero-lt-suc, le-refl, zero-mul}
 use lib.Arith.{bin-ind, digits-div, digits-mod}
 use lib.Bits.{bitXor, differ, xor-step, xor-shr, xor-self, xor-zero-r, xor-comm}
+use Rattle.laws.specs.Bits.{unlike}
 
 pub bit-lt : (n : ℕ) → n % 2 < 2
 bit-lt n = mod-lt n (zero-lt-suc 1)
@@ -26,6 +29,12 @@ pub bit-ind : (P : ℕ → Type 0) → P 0 → P 1 → (x : ℕ) → x < 2 → P
 bit-ind P p q zero h = p
 bit-ind P p q (suc zero) h = q
 bit-ind P p q (suc (suc x)) h = absurd (not-suc-le-zero (le-of-suc-le-suc (le-of-suc-le-suc h)))
+
+pub two-bits : (P : ℕ → ℕ → Type 0) → P 0 0 → P 0 1 → P 1 0 → P 1 1 → (a b : ℕ) → a < 2 → b < 2 → P a b
+two-bits P p q r s a b h k = bit-ind (λ a. P a b) (bit-ind (P 0) p q b k) (bit-ind (P 1) r s b k) a h
+
+pub differ-bits : (x y : ℕ) → differ (x % 2) (y % 2) ≡ unlike (x % 2) (y % 2)
+differ-bits x y = two-bits (λ a b. differ a b ≡ unlike a b) refl refl refl refl (x % 2) (y % 2) (bit-lt x) (bit-lt y)
 
 differ-lt : (x y : ℕ) → x < 2 → y < 2 → differ x y < 2
 differ-lt x y hx hy = bit-ind (λ x. differ x y < 2) hy (bit-ind (λ y. differ 1 y < 2) (le-refl 2) (zero-lt-suc 1) y hy) x hx

@@ -2,7 +2,6 @@
 -- ┌──────────────┬──────────────────────────────────────────────────────────────────┐
 -- │ inlaid-none  │ before the first                                                 │
 -- │ inlaid-more  │ one byte more, stored                                            │
--- │ front        │ what is laid over an output that has room stands at its front    │
 -- │ inlay-length │ the output keeps its length                                      │
 -- │ then         │ a piece after another is their joining                           │
 -- │ respelled    │ a part of a piece, said otherwise                                │
@@ -13,13 +12,13 @@
 use mathlib.Core.Path.{_≡_, refl, sym, ap, _∙_, subst}
 use mathlib.Core.List.{List, [], _∷_, _++_, append-assoc, append-nil}
 use Prim.Native.Nat.{ℕ, zero, suc, _+_, _<_, _≤_}
-use native.Mathlib.Nat.{not-suc-le-zero, le-of-suc-le-suc, zero-add}
+use native.Mathlib.Nat.{zero-add}
 use native.Mathlib.Numerals.{add-one}
 use native.Mathlib.Omega.{arith}
 use lib.ListN.{length, getD, take, set, length-append}
 use lib.Seq.{take-suc, length-take-le}
 use Rattle.laws.specs.Lent.{_over_}
-use Rattle.laws.proofs.Writing.{over-length, over-more}
+use Rattle.laws.proofs.Writing.{over-length, over-more, over-take}
 use Rattle.lane.specs.declared.Totals.{Totals}
 use Rattle.wording.specs.Text.{text}
 use Rattle.printout.specs.Calls.{Says, Prints}
@@ -48,13 +47,6 @@ inlaid-more at i p o h l =
     ∙ ap (λ (zs : List ℕ). zs over o) (append-assoc (take at o) (take i p) _)
     ∙ ap (λ (q : List ℕ). (take at o ++ q) over o) (sym (take-suc p i 0 l) ∙ ap (λ (n : ℕ). take n p) (sym (add-one i)))
 
-pub front : (ys o : List ℕ) → length ys ≤ length o → take (length ys) (ys over o) ≡ ys
-unfolding _over_
-front [] [] h = refl
-front [] (x ∷ o) h = refl
-front (y ∷ ys) [] h = absurd (not-suc-le-zero h)
-front (y ∷ ys) (x ∷ o) h = ap (λ (l : List ℕ). y ∷ l) (front ys o (le-of-suc-le-suc h))
-
 again : (ys zs o : List ℕ) → (ys ++ zs) over (ys over o) ≡ (ys ++ zs) over o
 unfolding _over_
 again ys zs [] = refl
@@ -66,7 +58,7 @@ inlaid-on at p q o h =
     let ys : List ℕ = take at o ++ p in
     let e : length ys ≡ at + length p = reach at p o (omega arith) in
     ap (λ (l : List ℕ). (l ++ q) over (ys over o))
-    (ap (λ (n : ℕ). take n (ys over o)) (sym e) ∙ front ys o (subst (λ (n : ℕ). n ≤ length o) (sym e) h))
+    (over-take ys o (at + length p) (sym e) (subst (λ (n : ℕ). n ≤ length o) (sym e) h))
     ∙ again ys q o
     ∙ ap (λ (l : List ℕ). l over o) (append-assoc (take at o) p q)
 

@@ -15,7 +15,7 @@ use Prim.Native.Nat.{ℕ, _+_, _-_, _<_, _≤_}
 use native.Mathlib.Omega.{arith}
 use lib.ListN.{length, take, drop, length-drop}
 use lib.Seq.{drop-drop}
-use Rattle.laws.proofs.Writing.{over-length}
+use Rattle.laws.proofs.Writing.{over-length, over-take}
 use Rattle.wording.specs.declared.Notice.{Notice}
 use Rattle.wording.specs.declared.Notice.the-variants.{Altered, Refused, Nothing}
 use Rattle.wording.specs.Account.{noticeLine, altersOne, refusesOne, accountLines}
@@ -24,12 +24,11 @@ use Rattle.printout.specs.declared.account.Told.{Told}
 use Rattle.printout.specs.declared.account.Step.{Step}
 use Rattle.printout.specs.Calls.{Prints, noticeAt, onward, Tells}
 use Rattle.printout.specs.Claims.{linesLeft, leftToTell, Printed, ended, told}
-use Rattle.printout.proofs.Laying.{front}
 
 pub printed : {p o₀ o : List ℕ} {n : ℕ} → Prints p o₀ n o → take n o ≡ p
 printed {p} {o₀} {o} {n} t =
     let fits : length p ≤ length o₀ = omega (arith, t .size, t .room .0, ap length (t .bytes), over-length p o₀) in
-    ap₂ (take {A = ℕ}) (t .size) (t .bytes) ∙ front p o₀ fits
+    ap (take n) (t .bytes) ∙ over-take p o₀ n (t .size) fits
 
 counted : (x : Notice) (c : Told) → (onward x c .altered ≡ c .altered + altersOne x) × (onward x c .refused ≡ c .refused + refusesOne x)
 counted (Altered i p) c = (refl, omega arith)

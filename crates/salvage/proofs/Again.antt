@@ -5,7 +5,6 @@
 -- │ each-again    │ which each of them has met                                     │
 -- │ none-altered, │ what the lists tell of these                                   │
 -- │ same-refused  │                                                                │
--- │ take-over     │ the entries of a list that has room for them                   │
 -- │ second-run    │ the claim of specs/Claims.antt by this name                    │
 -- └───────────────┴────────────────────────────────────────────────────────────────┘
 use mathlib.Core.Path.{_≡_, refl, sym, ap, ap₂, _∙_, subst}
@@ -15,12 +14,11 @@ use Prim.Native.Nat.{ℕ, suc, _≤_}
 use native.Mathlib.Omega.{arith}
 use borrow.Author.Tests.{le-ltb}
 use lib.Dec.{eqb, ltb}
-use lib.ListN.{length, getD, take, drop}
-use lib.Seq.{take-at}
+use lib.ListN.{length, getD, take}
 use Rattle.paper.specs.Answer.{Answer, gives, refused}
 use Rattle.laws.specs.Lent.{Lent, Each, none, next, _over_}
 use Rattle.laws.proofs.Truth.{is-true}
-use Rattle.laws.proofs.Writing.{over-none, over-fits, one-each}
+use Rattle.laws.proofs.Writing.{over-none, over-take, one-each}
 use Rattle.radix.specs.Octets.{bytesOf}
 use Rattle.bch.specs.Code.{keep}
 use Rattle.filing.specs.File.{Capture, fileOf, Holds}
@@ -78,13 +76,10 @@ same-refused (y ∷ ys) n = ap₂ (λ (b : Bool) (l : List ℕ). keep b n l) (sa
     same (gives r) = refl
     same (refused n) = refl
 
-take-over : (xs o : List ℕ) (n : ℕ) → n ≡ length xs → length xs ≤ length o → take n (xs over o) ≡ xs
-take-over xs o n e h = ap (take n) (over-fits xs o h) ∙ take-at xs (drop (length xs) o) n (sym e)
-
 module _ {c : Capture} {F A P R : Lent} {k : Counts} (s : Salvage c F A P R k) where
   entries : (o : List ℕ) → length (R .was) ≤ length o → take (k .«refused») (refusedIn (fates s) over o) ≡ refusedIn (fates s)
   entries o h =
-      take-over (refusedIn (fates s)) o (k .«refused») (in-refused s .many)
+      over-take (refusedIn (fates s)) o (k .«refused») (in-refused s .many)
       (omega (arith, told-few isRefused theIndex (fates s) 0, in-refused s .fits, h))
 
   -- a second run, over the capture after

@@ -7,7 +7,7 @@ use native.Mathlib.Decide.{ℕ-discrete}
 use native.Mathlib.Nat.{zero-add, mod-lt}
 use native.Mathlib.Omega.{arith}
 use borrow.Author.Tests.{eq-eqb, ne-eqb, lt-leb}
-use lib.Bits.{bitXor, differ, xor-shr, xor-self, xor-zero-r}
+use lib.Bits.{bitXor, xor-shr, xor-self, xor-zero-r}
 use lib.Dec.{eqb, lit<}
 use lib.ListN.{length, getD}
 use Rattle.paper.specs.Answer.{Answer, gives, refused}
@@ -15,7 +15,7 @@ use Rattle.paper.proofs.Answer.{never-both}
 use Rattle.laws.specs.Bits.{bit, unlike}
 use Rattle.laws.specs.Lent.{Lent}
 use Rattle.laws.proofs.Truth.{is-true}
-use Rattle.laws.proofs.Xor.{bit-ind, bit-lt, xor-odd, xor-cancel}
+use Rattle.laws.proofs.Xor.{differ-bits, xor-odd, xor-cancel}
 use Rattle.frame.specs.Word.{sixteen, dataOf, FrameOf}
 use Rattle.decoding.specs.Found.{Found}
 use Rattle.decoding.specs.Reads.{Reads}
@@ -83,16 +83,11 @@ only-altered c F A P R k s i h = (
     unless n (inl t) = absurd (n (passes-among (in-altered s) i (omega (arith, h, fates-many s)) t))
     unless n (inr z) = altered-there s i h ∙ ap (bitXor (frameIn (F .was) i)) z ∙ xor-zero-r (frameIn (F .was) i)
 
-bits-unlike : (x y : ℕ) → x < 2 → y < 2 → differ x y ≡ unlike x y
-bits-unlike x y hx hy =
-    bit-ind (λ x. differ x y ≡ unlike x y) (bit-ind (λ y. differ 0 y ≡ unlike 0 y) refl refl y hy)
-    (bit-ind (λ y. differ 1 y ≡ unlike 1 y) refl refl y hy) x hx
-
 sum-bit : (f g q : ℕ) → bit (bitXor f g) q ≡ unlike (bit f q) (bit g q)
 sum-bit f g q =
     ap (λ (x : ℕ). x % 2) (xor-shr f g q)
     ∙ xor-odd (f / 2 ^ q) (g / 2 ^ q)
-    ∙ bits-unlike (bit f q) (bit g q) (bit-lt (f / 2 ^ q)) (bit-lt (g / 2 ^ q))
+    ∙ differ-bits (f / 2 ^ q) (g / 2 ^ q)
 
 pub exact-places : ExactPlaces
 exact-places c F A P R k s j h =

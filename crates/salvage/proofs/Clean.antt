@@ -17,7 +17,7 @@ use lib.Bits.{bitXor, differ, xor-zero-l, xor-zero-r, xor-comm, xor-lt}
 use lib.Dec.{eqb}
 use lib.ListN.{getD}
 use Rattle.paper.specs.Answer.{Answer, gives, refused}
-use Rattle.laws.proofs.Xor.{bit-ind, bit-lt, xor-digit, xor-cancel}
+use Rattle.laws.proofs.Xor.{two-bits, bit-lt, xor-digit, xor-cancel}
 use Rattle.bch.specs.Code.{position, differences}
 use Rattle.bch.proofs.Nearest.{code-lt}
 use Rattle.bch.proofs.Ones.{ups, differ-ups, sumOf, rebuild, Rising, ups-rising}
@@ -52,14 +52,10 @@ word-places v w h k =
     ∙ ap (λ (n : ℕ). n * 2) (rebuild 63 (bitXor v w) (omega arith) ∙ mod-eq-of-lt (xor-lt 63 v w h k))
 
 flipped-pad : (x y : ℕ) → x < 2 → y < 2 → differ x (flag (eqb x y)) ≡ 1 - y
-flipped-pad x y hx hy =
-    bit-ind (λ x. differ x (flag (eqb x y)) ≡ 1 - y) (bit-ind (λ y. differ 0 (flag (eqb 0 y)) ≡ 1 - y) refl refl y hy)
-    (bit-ind (λ y. differ 1 (flag (eqb 1 y)) ≡ 1 - y) refl refl y hy) x hx
+flipped-pad = two-bits (λ x y. differ x (flag (eqb x y)) ≡ 1 - y) refl refl refl refl
 
 flag-lt : (x y : ℕ) → x < 2 → y < 2 → flag (eqb x y) < 2
-flag-lt x y hx hy =
-    bit-ind (λ x. flag (eqb x y) < 2) (bit-ind (λ y. flag (eqb 0 y) < 2) (omega arith) (omega arith) y hy)
-    (bit-ind (λ y. flag (eqb 1 y) < 2) (omega arith) (omega arith) y hy) x hx
+flag-lt = two-bits (λ x y. flag (eqb x y) < 2) (omega arith) (omega arith) (omega arith) (omega arith)
 
 module _ (f : ℕ) (h : f < 2 ^ 64) (r : Found) (a : ReadAs f r) where
   pub places-digit : placesIn (gives r) ≡ bitXor (a .sent) (wordOf f) * 2 + flag (eqb (padOf f) (a .sent % 2))

@@ -11,7 +11,7 @@
 -- │                    │ there only with its places                                   │
 -- │ noticeLine x       │ the line of what is told, and nothing where nothing is left  │
 -- │ altersOne x,       │ how many altered and refused frames it tells, 1 or 0         │
--- │ refusesOne x        │                                                              │
+-- │ refusesOne x       │                                                              │
 -- │ firstLines k is ps │ the lines of the k told next, fewer where fewer are left     │
 -- │   rs               │                                                              │
 -- │ accountLines is ps │ the lines of all of them                                     │

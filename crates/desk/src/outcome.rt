@@ -65,7 +65,7 @@ fn told_lines(altered: &[u64], places: &[u64], refused: &[u64]) -> bool {
 }
 
 // Whether the whole account is written to standard output.
-pub(crate) fn told(frames: u64, altered: &[u64], places: &[u64], refused: &[u64]) -> bool {
+pub(crate) fn all_told(frames: u64, altered: &[u64], places: &[u64], refused: &[u64]) -> bool {
     if !told_head(frames, altered.len() as u64, refused.len() as u64) {
         return false;
     }

@@ -29,7 +29,7 @@ fn refused_with(n: u8) -> i32
 }
 
 // How many frames the salvaged capture has.
-fn frames_in(file: &[u8]) -> u64 {
+fn frames_of(file: &[u8]) -> u64 {
     match capture::head(file) {
         Labelled::Found(h) => h.count as u64,
         Labelled::Refused(_) => 0,
@@ -43,7 +43,7 @@ fn account(frames: u64, k: Counts, altered: &[u64], places: &[u64], refused: &[u
 {
     let a = k.altered;
     let r = k.refused;
-    if outcome::told(frames, &altered[..a], &places[..a], &refused[..r]) {
+    if outcome::all_told(frames, &altered[..a], &places[..a], &refused[..r]) {
         return DONE;
     }
     cannot(b"salvage: cannot write ", b"the whole account")
@@ -87,7 +87,7 @@ fn salvage_of(file: &mut [u8], one: i32, to: &mut [u8]) -> i32
             if !delivered(one, to, file) {
                 return SAID;
             }
-            account(frames_in(file), k, &altered, &places, &refused)
+            account(frames_of(file), k, &altered, &places, &refused)
         }
         Salvaged::Refused(n) => refused_with(n),
     }

@@ -144,14 +144,12 @@ module _ {A B : Type 0} {R : A → B → Type 0} where
   one-each d one (next r e) (next s f) =
       ap₂ (λ (y : B) (l : List B). y ∷ l) (one 0 (zero-lt-suc _) _ _ r s) (one-each d (λ i l. one (suc i) (up i _ l)) e f)
 
--- outputs lent alike: the same list at the start, shown the same way
 abbrev pub Alike : {B : Type 0} → List (Output B) → List (Output B) → Type 0
 Alike [] [] = Unit {0}
 Alike [] (p ∷ ps) = ⊥
 Alike (o ∷ os) [] = ⊥
 Alike (o ∷ os) (p ∷ ps) = (o .shows ≡ p .shows) × (o .place .was ≡ p .place .was) × Alike os ps
 
--- outputs left alike
 abbrev pub Same : {B : Type 0} → List (Output B) → List (Output B) → Type 0
 Same [] [] = Unit {0}
 Same [] (p ∷ ps) = ⊥
@@ -191,7 +189,6 @@ module _ {A B : Type 0} {R : A → B → Type 0} {xs : List A} {os : List (Outpu
   pub call-done : n ≡ 0 → Written R xs os → ListCall R xs n os done
   call-done e w = record { number = ap (λ (i : ℕ). owed i tt) (sym e); left = w }
 
--- the number that C gets of a list call says its answer
 pub numbered-call : {A B : Type 0} {R : A → B → Type 0} {xs : List A} {os : List (Output B)} {n m : ℕ} {a : Answer Unit} → m ≡ numberOf a
     → ListCall R xs n os a → ListCall R xs n os (numbered m)
 numbered-call {A} {B} {R} {xs} {os} {n} {m} {a} e c =

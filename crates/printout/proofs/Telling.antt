@@ -22,7 +22,7 @@ use Rattle.wording.specs.Account.{noticeLine, altersOne, refusesOne, accountLin
 use Rattle.wording.proofs.Notices.{one-or-none, no-line, is-there, lines-none, lines-next}
 use Rattle.printout.specs.declared.account.Told.{Told}
 use Rattle.printout.specs.declared.account.Step.{Step}
-use Rattle.printout.specs.Calls.{Prints, noticeAt, onward, Tells}
+use Rattle.printout.specs.Calls.{Prints, noticeAt, toldWith, Tells}
 use Rattle.printout.specs.Claims.{linesLeft, leftToTell, Printed, ended, told}
 
 pub printed : {p o₀ o : List ℕ} {n : ℕ} → Prints p o₀ n o → take n o ≡ p
@@ -30,7 +30,7 @@ printed {p} {o₀} {o} {n} t =
     let fits : length p ≤ length o₀ = omega (arith, t .size, t .room .0, ap length (t .bytes), over-length p o₀) in
     ap (take n) (t .bytes) ∙ over-take p o₀ n (t .size) fits
 
-counted : (x : Notice) (c : Told) → (onward x c .altered ≡ c .altered + altersOne x) × (onward x c .refused ≡ c .refused + refusesOne x)
+counted : (x : Notice) (c : Told) → (toldWith x c .altered ≡ c .altered + altersOne x) × (toldWith x c .refused ≡ c .refused + refusesOne x)
 counted (Altered i p) c = (refl, omega arith)
 counted (Refused i) c = (omega arith, refl)
 counted Nothing c = (omega arith, omega arith)
@@ -54,15 +54,15 @@ module _ (is ps rs : List ℕ) (c : Told) where
       )
 
   pub tells : {x : Notice} {t : Told} {o₀ o : List ℕ} {n : ℕ}
-      → x ≡ noticeAt is ps rs c → t ≡ onward x c → Prints (noticeLine x) o₀ n o → Tells is ps rs c o₀ (record { length = n; told = t }) o
+      → x ≡ noticeAt is ps rs c → t ≡ toldWith x c → Prints (noticeLine x) o₀ n o → Tells is ps rs c o₀ (record { length = n; told = t }) o
   tells {x} {t} {o₀} {o} {n} e f p =
       record {
-        told = f ∙ ap (λ (x : Notice). onward x c) e;
+        told = f ∙ ap (λ (x : Notice). toldWith x c) e;
         line = subst (λ (x : Notice). Prints (noticeLine x) o₀ n o) e p;
       }
 
   rest : (x : Notice)
-      → accountLines (drop (altersOne x) js) (drop (altersOne x) qs) (drop (refusesOne x) ts) ≡ linesLeft is ps rs (onward x c)
+      → accountLines (drop (altersOne x) js) (drop (altersOne x) qs) (drop (refusesOne x) ts) ≡ linesLeft is ps rs (toldWith x c)
   rest (Altered i p) = ap₂ (λ (a b : List ℕ). accountLines a b ts) (drop-drop 1 (c .altered) is) (drop-drop 1 (c .altered) ps)
   rest (Refused i) = ap (accountLines js qs) (drop-drop 1 (c .refused) rs)
   rest Nothing = refl

@@ -6,7 +6,7 @@
 -- │ Prints p o₀ n o │ the same of the bytes p                                      │
 -- │ noticeAt is ps  │ what is told next of the altered is, their places ps and the │
 -- │   rs c          │ refused rs, where as many as c says have been told           │
--- │ onward x c      │ how many have been told with x                               │
+-- │ toldWith x c    │ how many have been told with x                               │
 -- │ Tells is ps rs  │ the line of what is told next is printed, and s has its      │
 -- │   c o₀ s o      │ length and how many have been told with it; where nothing is │
 -- │                 │ left no line, and c                                          │
@@ -38,11 +38,11 @@ pub record Prints (p : List ℕ) (o₀ : List ℕ) (n : ℕ) (o : List ℕ) : Ty
 abbrev pub noticeAt : List ℕ → List ℕ → List ℕ → Told → Notice
 noticeAt is ps rs c = nextNotice (drop (c .altered) is) (drop (c .altered) ps) (drop (c .refused) rs)
 
-abbrev pub onward : Notice → Told → Told
-onward (Altered i p) c = record { altered = c .altered + 1; refused = c .refused }
-onward (Refused i) c = record { altered = c .altered; refused = c .refused + 1 }
-onward Nothing c = c
+abbrev pub toldWith : Notice → Told → Told
+toldWith (Altered i p) c = record { altered = c .altered + 1; refused = c .refused }
+toldWith (Refused i) c = record { altered = c .altered; refused = c .refused + 1 }
+toldWith Nothing c = c
 
 pub record Tells (is ps rs : List ℕ) (c : Told) (o₀ : List ℕ) (s : Step) (o : List ℕ) : Type 0 where
-  pub told : s .told ≡ onward (noticeAt is ps rs c) c
+  pub told : s .told ≡ toldWith (noticeAt is ps rs c) c
   pub line : Prints (noticeLine (noticeAt is ps rs c)) o₀ (s .length) o

@@ -4,7 +4,7 @@ ghost use mathlib.Core.List.{[], _∷_};
 ghost use Prim.Native.Nat.{_-_, _^_, _<_, _≤_};
 ghost use lib.ListN.{drop};
 ghost use Rattle.wording.specs.Account.{hexDigit, hex16, alteredLine, accountHead, nextNotice, noticeLine, altersOne, refusesOne};
-ghost use Rattle.printout.specs.Calls.{Prints, noticeAt, onward, Tells};
+ghost use Rattle.printout.specs.Calls.{Prints, noticeAt, toldWith, Tells};
 use crate::line;
 use crate::named;
 use crate::put;
@@ -120,7 +120,7 @@ fn next_notice(altered: &[u64], places: &[u64], refused: &[u64], c: Told) -> Not
 // How many have been told with x, for which there is room in the count.
 fn past(x: Notice, c: Told) -> Told
     requires { ⌜ (altersOne x ≤ 2 ^ 64 - 1 - c .altered) × (refusesOne x ≤ 2 ^ 64 - 1 - c .refused) ⌝ }
-    ensures { λ r. ⌜ r ≡ onward x c ⌝ }
+    ensures { λ r. ⌜ r ≡ toldWith x c ⌝ }
 {
     match x {
         Notice::Altered(_, _) => Told {

@@ -26,8 +26,8 @@ use Rattle.filing.proofs.Claims.{one-holds, not-both}
 use Rattle.decoding.specs.Found.{Found}
 use Rattle.decoding.specs.Reads.{Reads}
 use Rattle.decoding.proofs.Exactly.{reads-back}
-use Rattle.salvage.specs.Fates.{placesIn, Becomes, Fate, Meets, isAltered, isRefusal, isRefused, told, theIndex, itsPlaces, refusedIn}
-use Rattle.salvage.specs.Calls.{after, countsOf, anyShort, Refusal, by-head, by-room, Salvage, Salvages}
+use Rattle.salvage.specs.Fates.{placesIn, Becomes, Fate, Meets, isAltered, isRefusal, isRefused, picked, theIndex, itsPlaces, refusedIn}
+use Rattle.salvage.specs.Calls.{framesAfter, countsOf, anyShort, Refusal, by-head, by-room, Salvage, Salvages}
 use Rattle.salvage.specs.Claims.{SecondRun, Untouched}
 use Rattle.salvage.specs.declared.Counts.{Counts}
 use Rattle.salvage.proofs.Told.{told-few}
@@ -49,16 +49,16 @@ by-answer f (refused n) g t e = record { reads = subst (λ (x : ℕ). Reads x (r
 meets-again : {f : ℕ} {y : Fate} → Meets f y → Meets (y .after) (again y)
 meets-again {f} {y} m = by-answer f (y .answer) (y .after) (m .reads) (m .becomes)
 
-each-again : {fs : List ℕ} {ys : List Fate} → Each Meets fs ys → Each Meets (after ys) (map again ys)
+each-again : {fs : List ℕ} {ys : List Fate} → Each Meets fs ys → Each Meets (framesAfter ys) (map again ys)
 each-again none = none
 each-again (next m w) = next (meets-again m) (each-again w)
 
-after-again : (ys : List Fate) → after (map again ys) ≡ after ys
+after-again : (ys : List Fate) → framesAfter (map again ys) ≡ framesAfter ys
 after-again [] = refl
 after-again (y ∷ ys) = ap (λ (l : List ℕ). y .after ∷ l) (after-again ys)
 
-none-altered : (g : ℕ → Fate → ℕ) (ys : List Fate) (n : ℕ) → told isAltered g n (map again ys) ≡ []
-unfolding told
+none-altered : (g : ℕ → Fate → ℕ) (ys : List Fate) (n : ℕ) → picked isAltered g n (map again ys) ≡ []
+unfolding picked
 none-altered g [] n = refl
 none-altered g (y ∷ ys) n =
     ap₂ (λ (b : Bool) (l : List ℕ). keep b (g n (again y)) l) (clean (y .answer)) (none-altered g ys (suc n))
@@ -67,8 +67,8 @@ none-altered g (y ∷ ys) n =
     clean (gives r) = refl
     clean (refused n) = refl
 
-same-refused : (ys : List Fate) (n : ℕ) → told isRefused theIndex n (map again ys) ≡ told isRefused theIndex n ys
-unfolding told
+same-refused : (ys : List Fate) (n : ℕ) → picked isRefused theIndex n (map again ys) ≡ picked isRefused theIndex n ys
+unfolding picked
 same-refused [] n = refl
 same-refused (y ∷ ys) n = ap₂ (λ (b : Bool) (l : List ℕ). keep b n l) (same (y .answer)) (same-refused ys (suc n))
   where
@@ -86,11 +86,11 @@ module _ {c : Capture} {F A P R : Lent} {k : Counts} (s : Salvage c F A P R k) w
   module _ {F′ A′ P′ R′ : Lent} {k′ : Counts} (t : Salvage (cleaned s) F′ A′ P′ R′ k′) where
     same : fates t ≡ map again (fates s)
     same =
-        one-each 0 (λ i h y z. one-fate (getD (after (fates s)) i 0) y z (t .holds .writable .frames i)) (t .leaves .each)
+        one-each 0 (λ i h y z. one-fate (getD (framesAfter (fates s)) i 0) y z (t .holds .writable .frames i)) (t .leaves .each)
         (each-again (s .leaves .each))
 
-    none-told : (g : ℕ → Fate → ℕ) → told isAltered g 0 (fates t) ≡ []
-    none-told g = ap (told isAltered g 0) same ∙ none-altered g (fates s) 0
+    none-told : (g : ℕ → Fate → ℕ) → picked isAltered g 0 (fates t) ≡ []
+    none-told g = ap (picked isAltered g 0) same ∙ none-altered g (fates s) 0
 
     refused-told : refusedIn (fates t) ≡ refusedIn (fates s)
     refused-told = ap refusedIn same ∙ same-refused (fates s) 0
@@ -103,12 +103,12 @@ module _ {c : Capture} {F A P R : Lent} {k : Counts} (s : Salvage c F A P R k) w
     file-stays : Untouched F′
     file-stays =
         t .leaves .shows .file
-        ∙ ap₂ (λ (ys : List Fate) (l : List ℕ). bytesOf (after ys) over l) same (t .holds .file)
+        ∙ ap₂ (λ (ys : List Fate) (l : List ℕ). bytesOf (framesAfter ys) over l) same (t .holds .file)
         ∙ ap (λ (l : List ℕ). bytesOf l over fileOf (cleaned s)) (after-again (fates s))
-        ∙ refiled (cleaned s) (after (fates s)) refl
+        ∙ refiled (cleaned s) (framesAfter (fates s)) refl
         ∙ sym (t .holds .file)
 
-    told-none : (L : Lent) (g : ℕ → Fate → ℕ) → L .is ≡ told isAltered g 0 (fates t) over L .was → Untouched L
+    told-none : (L : Lent) (g : ℕ → Fate → ℕ) → L .is ≡ picked isAltered g 0 (fates t) over L .was → Untouched L
     told-none L g w = w ∙ ap (λ (l : List ℕ). l over L .was) (none-told g) ∙ over-none (L .was)
 
     abbrev Ends : Answer Counts → Type 0
@@ -140,18 +140,18 @@ second-run c F A P R F′ A′ P′ R′ k (gives k′) s e la lp lr (d, t) =
 second-run c F A P R F′ A′ P′ R′ k (refused n) s e la lp lr (by-head r, w) =
     absurd (not-both (F′ .was) n r (cleaned s) (subst (λ (l : List ℕ). Holds l (cleaned s)) (sym e) (holds-after s)))
 second-run c F A P R F′ A′ P′ R′ k (refused n) s e la lp lr (by-room q d h t, w) =
-    absurd (is-true (sym (long-enough (after (fates s)) (A′ .was) (P′ .was) (R′ .was) a p r) ∙ sym one ∙ t))
+    absurd (is-true (sym (long-enough (framesAfter (fates s)) (A′ .was) (P′ .was) (R′ .was) a p r) ∙ sym one ∙ t))
   where
-    one : anyShort (d .frames) (A′ .was) (P′ .was) (R′ .was) ≡ anyShort (after (fates s)) (A′ .was) (P′ .was) (R′ .was)
+    one : anyShort (d .frames) (A′ .was) (P′ .was) (R′ .was) ≡ anyShort (framesAfter (fates s)) (A′ .was) (P′ .was) (R′ .was)
     one =
         ap (λ (x : Capture). anyShort (x .frames) (A′ .was) (P′ .was) (R′ .was))
         (one-holds (F′ .was) d (cleaned s) h (subst (λ (l : List ℕ). Holds l (cleaned s)) (sym e) (holds-after s)))
 
-    a : length (after (fates s)) ≤ length (A′ .was)
+    a : length (framesAfter (fates s)) ≤ length (A′ .was)
     a = omega (arith, after-many s, roomy s .0, la)
 
-    p : length (after (fates s)) ≤ length (P′ .was)
+    p : length (framesAfter (fates s)) ≤ length (P′ .was)
     p = omega (arith, after-many s, roomy s .1, lp)
 
-    r : length (after (fates s)) ≤ length (R′ .was)
+    r : length (framesAfter (fates s)) ≤ length (R′ .was)
     r = omega (arith, after-many s, roomy s .2, lr)

@@ -107,7 +107,7 @@ exact-places c F A P R k s j h =
 
 pub only-refused-told : OnlyRefusedTold
 only-refused-told c F A P R k s i h =
-    (λ a. refuses (refusal-one (answer-at s i h) (among-passes (in-refused s) i a)), λ n r. told n (one n r))
+    (λ a. refuses (refusal-one (answer-at s i h) (among-passes (in-refused s) i a)), λ n r. picked n (one n r))
   where
     refuses : (n : ℕ) × (answer-at s i h ≡ refused n) → (n : ℕ) × Reads (frameIn (F .was) i) (refused n)
     refuses (n, e) = (n, subst (Reads (frameIn (F .was) i)) e (reads-at s i h))
@@ -115,8 +115,8 @@ only-refused-told c F A P R k s i h =
     one : (n : ℕ) → Reads (frameIn (F .was) i) (refused n) → answer-at s i h ≡ refused n
     one n r = one-answer (frameIn (F .was) i) (small-at s i h) (answer-at s i h) (refused n) (reads-at s i h) r
 
-    told : (n : ℕ) → answer-at s i h ≡ refused n → Among (k .«refused») (R .is) i × (frameIn (F .is) i ≡ frameIn (F .was) i)
-    told n e = (
+    picked : (n : ℕ) → answer-at s i h ≡ refused n → Among (k .«refused») (R .is) i × (frameIn (F .is) i ≡ frameIn (F .was) i)
+    picked n e = (
       passes-among (in-refused s) i (omega (arith, h, fates-many s)) (ap isRefusal e),
       subst (λ (a : Answer Found). Becomes (frameIn (F .was) i) a (frameIn (F .is) i)) e (becomes-at s i h),
     )

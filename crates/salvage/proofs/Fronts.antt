@@ -6,7 +6,7 @@
 -- │ octets-over   │ bytes over bytes are bytes                                     │
 -- │ Fresh         │ a file after some frames, o₀ as it came                        │
 -- │ fresh-none    │ before the first                                               │
--- │ fresh-more    │ after one more, mended                                         │
+-- │ fresh-more    │ after one more, rewritten                                      │
 -- └───────────────┴────────────────────────────────────────────────────────────────┘
 use mathlib.Core.Path.{_≡_, refl, sym, ap, ap₂, _∙_, subst}
 use mathlib.Core.Bool.{Bool, true, false, cond}
@@ -28,7 +28,7 @@ use Rattle.radix.proofs.Digits.{in-joined}
 use Rattle.radix.proofs.Joined.{joined-second, numbers-at}
 use Rattle.radix.proofs.Stored.{length-bytes, bytes-are}
 use Rattle.radix.proofs.Writing.{bytes-more}
-use Rattle.salvage.specs.Parts.{mended}
+use Rattle.salvage.specs.Parts.{rewritten}
 
 -- bytes from a place on, whatever stands before it
 joined-drop : (a o : List ℕ) (n : ℕ) → length a ≡ n → n ≤ length o → joined 8 (a ++ drop n o) n ≡ joined 8 o n
@@ -82,14 +82,14 @@ module _ {xs o₀ o : List ℕ} (s : Fresh xs o₀ o) (i : ℕ) (e : length xs �
   fresh-stored : (x : ℕ) → stored o i x ≡ bytesOf (xs ++ x ∷ []) over o₀
   fresh-stored x = ap (λ (l : List ℕ). stored l i x) (s .bytes) ∙ bytes-more xs o₀ x i e h
 
-  is-mended : Octets o → (f p : ℕ) → f ≡ getD (numbersOf o) i 0 → Dec (p ≡ 0) → mended o i f p ≡ stored o i (bitXor f p)
+  is-mended : Octets o → (f p : ℕ) → f ≡ getD (numbersOf o) i 0 → Dec (p ≡ 0) → rewritten o i f p ≡ stored o i (bitXor f p)
   is-mended k f p q (no n) = ap (λ (b : Bool). cond b o (stored o i (bitXor f p))) (ne-eqb p 0 n)
   is-mended k f p q (yes z) =
       ap (λ (b : Bool). cond b o (stored o i (bitXor f p))) (eq-eqb p 0 z)
       ∙ sym (stored-same o i k (subst (λ (n : ℕ). i < n / 8) (sym (s .size)) h))
       ∙ ap (stored o i) (sym q ∙ sym (xor-zero-r f) ∙ ap (bitXor f) (sym z))
 
-  pub fresh-more : Octets o₀ → (f p : ℕ) (r : List ℕ) → f ≡ getD (numbersOf o) i 0 → r ≡ mended o i f p → Fresh (xs ++ bitXor f p ∷ []) o₀ r
+  pub fresh-more : Octets o₀ → (f p : ℕ) (r : List ℕ) → f ≡ getD (numbersOf o) i 0 → r ≡ rewritten o i f p → Fresh (xs ++ bitXor f p ∷ []) o₀ r
   fresh-more k f p r q m =
       let w : r ≡ bytesOf (xs ++ bitXor f p ∷ []) over o₀ =
       m ∙ is-mended (subst Octets (sym (s .bytes)) (octets-over (bytesOf xs) o₀ (bytes-are xs) k)) f p q (ℕ-discrete p 0) ∙ fresh-stored (bitXor f p) in

@@ -13,7 +13,7 @@ use Rattle.radix.specs.Octets.{bytesOf}
 use Rattle.filing.specs.File.{Capture, Holds}
 use Rattle.filing.proofs.Claims.{one-refusal, one-holds, not-both}
 use Rattle.salvage.specs.Fates.{Fate, alteredIn, placesBeside, refusedIn}
-use Rattle.salvage.specs.Calls.{answer, after, countsOf, anyShort, Refusal, by-head, by-room, Salvage, Salvages}
+use Rattle.salvage.specs.Calls.{answer, framesAfter, countsOf, anyShort, Refusal, by-head, by-room, Salvage, Salvages}
 use Rattle.salvage.specs.Claims.{OneSalvage}
 use Rattle.salvage.specs.declared.Counts.{Counts}
 use Rattle.salvage.specs.declared.Salvaged.{Salvaged}
@@ -49,7 +49,7 @@ module _ (F F′ A A′ P P′ R R′ : Lent) (e : F .was ≡ F′ .was) (a : A 
       let u = s .leaves .shows in
       let v = t .leaves .shows in (
         ap gives (u .counts ∙ ap countsOf f ∙ sym (v .counts)),
-        u .file ∙ ap₂ (λ (ys : List Fate) (l : List ℕ). bytesOf (after ys) over l) f e ∙ sym (v .file),
+        u .file ∙ ap₂ (λ (ys : List Fate) (l : List ℕ). bytesOf (framesAfter ys) over l) f e ∙ sym (v .file),
         u .altered ∙ ap₂ (λ (ys : List Fate) (l : List ℕ). alteredIn ys over l) f a ∙ sym (v .altered),
         u .places ∙ ap₂ (λ (ys : List Fate) (l : List ℕ). placesBeside ys over l) f p ∙ sym (v .places),
         u .«refused» ∙ ap₂ (λ (ys : List Fate) (l : List ℕ). refusedIn ys over l) f r ∙ sym (v .«refused»),

@@ -16,8 +16,8 @@ use Rattle.laws.specs.Lent.{Lent}
 use Rattle.laws.proofs.Truth.{neither}
 use Rattle.capture.specs.declared.Label.{Label}
 use Rattle.capture.proofs.Calls.{Opened, frames-read}
-use Rattle.salvage.specs.Calls.{Leaves, by-room, Salvages}
-use Rattle.salvage.specs.Parts.{anyBelow, Room, Within}
+use Rattle.salvage.specs.Calls.{AllMet, by-room, Salvages}
+use Rattle.salvage.specs.Parts.{anyBelow, Room, OfFirst}
 use Rattle.salvage.specs.declared.Counts.{Counts}
 
 pub enough-room : (n : ℕ) (bs is ps rs : List ℕ) → n ≤ length bs / 8 → anyBelow n (length is) (length ps) (length rs) ≡ false → Room n bs is ps rs
@@ -34,13 +34,13 @@ enough-room n bs is ps rs h e =
 many : {bs : List ℕ} {h : Label} (w : Opened bs h) → h .count ≡ length (w .capture .frames)
 many w = ap (λ (x : Label). x .count) (w .label)
 
-pub of-capture : {h : Label} (F A P R : Lent) → Opened (F .was) h → (a : Answer Counts) → Within (h .count) F A P R a → Salvages F A P R a
+pub of-capture : {h : Label} (F A P R : Lent) → Opened (F .was) h → (a : Answer Counts) → OfFirst (h .count) F A P R a → Salvages F A P R a
 of-capture F A P R w (gives k) (e, l) = (
   w .capture,
   record {
     holds = w .holds;
     room = subst (λ (n : ℕ). anyBelow n (length (A .was)) (length (P .was)) (length (R .was)) ≡ false) (many w) e;
-    leaves = subst (λ (fs : List ℕ). Leaves fs F A P R k) (frames-read w) l;
+    leaves = subst (λ (fs : List ℕ). AllMet fs F A P R k) (frames-read w) l;
   },
 )
 of-capture F A P R w (refused m) (q, e, s) = (

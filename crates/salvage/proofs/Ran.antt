@@ -31,7 +31,7 @@ use Rattle.filing.proofs.Captures.{contents-size}
 use Rattle.decoding.specs.Found.{Found}
 use Rattle.decoding.specs.Reads.{Reads}
 use Rattle.salvage.specs.Fates.{Fate, Meets, Becomes, placesIn, isAltered, isRefused, theIndex, itsPlaces}
-use Rattle.salvage.specs.Calls.{after, Salvage}
+use Rattle.salvage.specs.Calls.{framesAfter, Salvage}
 use Rattle.salvage.specs.Claims.{frameIn}
 use Rattle.salvage.specs.declared.Counts.{Counts}
 use Rattle.salvage.proofs.Told.{told-many}
@@ -39,12 +39,12 @@ use Rattle.salvage.proofs.Clean.{after-is, after-lt}
 use Rattle.salvage.proofs.Entries.{nobody}
 use Rattle.salvage.proofs.Seen.{each-at, Lists, frames-at, refiled}
 
-all-after : {fs : List ℕ} {ys : List Fate} → Each Meets fs ys → ((i : ℕ) → getD fs i 0 < 2 ^ 64) → (i : ℕ) → getD (after ys) i 0 < 2 ^ 64
+all-after : {fs : List ℕ} {ys : List Fate} → Each Meets fs ys → ((i : ℕ) → getD fs i 0 < 2 ^ 64) → (i : ℕ) → getD (framesAfter ys) i 0 < 2 ^ 64
 all-after none h i = omega arith
 all-after (next m w) h zero = after-lt (h 0) m
 all-after (next m w) h (suc i) = all-after w (λ j. h (suc j)) i
 
-after-of : (ys : List Fate) (i : ℕ) → i < length ys → getD (after ys) i 0 ≡ getD ys i nobody .after
+after-of : (ys : List Fate) (i : ℕ) → i < length ys → getD (framesAfter ys) i 0 ≡ getD ys i nobody .after
 after-of [] i h = absurd (omega (arith, h))
 after-of (y ∷ ys) zero h = refl
 after-of (y ∷ ys) (suc i) h = after-of ys i (omega (arith, h))
@@ -54,12 +54,12 @@ module _ {c : Capture} {F A P R : Lent} {k : Counts} (s : Salvage c F A P R k) w
   fates = s .leaves .fates
 
   abbrev pub cleaned : Capture
-  cleaned = kept (c .lane) (after fates) (c .notes)
+  cleaned = kept (c .lane) (framesAfter fates) (c .notes)
 
   pub fates-many : length fates ≡ length (c .frames)
   fates-many = each-length (s .leaves .each)
 
-  pub after-many : length (after fates) ≡ length (c .frames)
+  pub after-many : length (framesAfter fates) ≡ length (c .frames)
   after-many = length-map fates (λ (y : Fate). y .after) ∙ fates-many
 
   pub met : (i : ℕ) → i < length (c .frames) → Meets (getD (c .frames) i 0) (getD fates i nobody)
@@ -99,7 +99,7 @@ module _ {c : Capture} {F A P R : Lent} {k : Counts} (s : Salvage c F A P R k) w
   pub holds-after : Holds (F .is) cleaned
   holds-after =
       record {
-        file = s .leaves .shows .file ∙ ap (λ (l : List ℕ). bytesOf (after fates) over l) (s .holds .file) ∙ refiled c (after fates) after-many;
+        file = s .leaves .shows .file ∙ ap (λ (l : List ℕ). bytesOf (framesAfter fates) over l) (s .holds .file) ∙ refiled c (framesAfter fates) after-many;
         writable = record {
           lane = s .holds .writable .lane;
           frames = all-after (s .leaves .each) (s .holds .writable .frames);
@@ -107,11 +107,11 @@ module _ {c : Capture} {F A P R : Lent} {k : Counts} (s : Salvage c F A P R k) w
           distance = subst (λ (n : ℕ). n < 2 ^ 64) same (s .holds .writable .distance);
         };
         few = omega (arith, after-many, s .holds .few);
-        size = omega (arith, s .holds .size, ap length (s .leaves .shows .file), over-length (bytesOf (after fates)) (F .was));
+        size = omega (arith, s .holds .size, ap length (s .leaves .shows .file), over-length (bytesOf (framesAfter fates)) (F .was));
       }
     where
-      same : length (contents c) ≡ length (contents (kept (c .lane) (after fates) (c .notes)))
-      same = omega (arith, contents-size c, contents-size (kept (c .lane) (after fates) (c .notes)), after-many)
+      same : length (contents c) ≡ length (contents (kept (c .lane) (framesAfter fates) (c .notes)))
+      same = omega (arith, contents-size c, contents-size (kept (c .lane) (framesAfter fates) (c .notes)), after-many)
 
   module _ (i : ℕ) (h : i < length (c .frames)) where
     pub before-at : frameIn (F .was) i ≡ getD (c .frames) i 0

@@ -5,7 +5,7 @@
 -- │ among-passes, │ its entries are the frames that pass its test                  │
 -- │ passes-among  │                                                                │
 -- │ lists-fit     │ its entries are in it                                          │
--- │ entry-at      │ its entries are those that were told                           │
+-- │ entry-at      │ its entries are those that were picked                         │
 -- │ frames-at     │ the frames of a file that holds a capture                      │
 -- │ fates-many …  │ of a salvaged capture: as many fates as frames, each met; room │
 -- │               │ in each list; the capture after, and its frames                │
@@ -29,8 +29,8 @@ use Rattle.radix.specs.Octets.{numbersOf, bytesOf}
 use Rattle.radix.proofs.Stored.{length-bytes}
 use Rattle.filing.specs.File.{Capture, kept, contents, fileOf, trailer, Writable, Holds}
 use Rattle.filing.proofs.Captures.{contents-size, frames-in}
-use Rattle.salvage.specs.Fates.{Fate, Meets, told, theIndex}
-use Rattle.salvage.specs.Calls.{after, Salvage}
+use Rattle.salvage.specs.Fates.{Fate, Meets, picked, theIndex}
+use Rattle.salvage.specs.Calls.{framesAfter, Salvage}
 use Rattle.salvage.specs.Claims.{frameIn, Among, Rises}
 use Rattle.salvage.specs.declared.Counts.{Counts}
 use Rattle.salvage.proofs.Told.{told-few}
@@ -43,18 +43,18 @@ each-at (next r w) d e zero h = r
 each-at (next r w) d e (suc i) h = each-at w d e i (le-of-suc-le-suc h)
 
 pub record Lists (t : Fate → Bool) (g : ℕ → Fate → ℕ) (ys : List Fate) (o₀ o : List ℕ) (m : ℕ) : Type 0 where
-  pub entries : o ≡ told t g 0 ys over o₀
-  pub many : m ≡ length (told t g 0 ys)
+  pub entries : o ≡ picked t g 0 ys over o₀
+  pub many : m ≡ length (picked t g 0 ys)
   pub fits : length ys ≤ length o₀
 
 module _ {t : Fate → Bool} {g : ℕ → Fate → ℕ} {ys : List Fate} {o₀ o : List ℕ} {m : ℕ} (s : Lists t g ys o₀ o m) where
   pub lists-fit : m ≤ length o
-  lists-fit = omega (arith, told-few t g ys 0, s .many, s .fits, ap length (s .entries), over-length (told t g 0 ys) o₀)
+  lists-fit = omega (arith, told-few t g ys 0, s .many, s .fits, ap length (s .entries), over-length (picked t g 0 ys) o₀)
 
-  pub entry-at : (j : ℕ) → j < m → getD o j 0 ≡ getD (told t g 0 ys) j 0
+  pub entry-at : (j : ℕ) → j < m → getD o j 0 ≡ getD (picked t g 0 ys) j 0
   entry-at j h =
-      ap (λ (l : List ℕ). getD l j 0) (s .entries ∙ over-fits (told t g 0 ys) o₀ (omega (arith, told-few t g ys 0, s .fits)))
-      ∙ List·getD-append (told t g 0 ys) (drop (length (told t g 0 ys)) o₀) 0 j (omega (arith, h, s .many))
+      ap (λ (l : List ℕ). getD l j 0) (s .entries ∙ over-fits (picked t g 0 ys) o₀ (omega (arith, told-few t g ys 0, s .fits)))
+      ∙ List·getD-append (picked t g 0 ys) (drop (length (picked t g 0 ys)) o₀) 0 j (omega (arith, h, s .many))
 
 module _ {t : Fate → Bool} {ys : List Fate} {o₀ o : List ℕ} {m : ℕ} (s : Lists t theIndex ys o₀ o m) where
   pub among-passes : (i : ℕ) → Among m o i → t (getD ys i nobody) ≡ true
@@ -66,7 +66,7 @@ module _ {t : Fate → Bool} {ys : List Fate} {o₀ o : List ℕ} {m : ℕ} (s :
   pub passes-among : (i : ℕ) → i < length ys → t (getD ys i nobody) ≡ true → Among m o i
   passes-among i h e = of (told-has t theIndex ys 0 i h e)
     where
-      of : ((j : ℕ) × (j < length (told t theIndex 0 ys)) × (getD (told t theIndex 0 ys) j 0 ≡ 0 + i)) → Among m o i
+      of : ((j : ℕ) × (j < length (picked t theIndex 0 ys)) × (getD (picked t theIndex 0 ys) j 0 ≡ 0 + i)) → Among m o i
       of (j, l, q) = let k : j < m = omega (arith, l, s .many) in (j, k, entry-at s j k ∙ q ∙ zero-add i)
 
   pub lists-rise : Rises m o

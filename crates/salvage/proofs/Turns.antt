@@ -28,8 +28,8 @@ use Rattle.tables.specs.Tables.{MendTable, ByteSums}
 use Rattle.decoding.specs.Found.{flag}
 use Rattle.reader.specs.ByTables.{readBy}
 use Rattle.salvage.specs.Fates.{Fate, placesIn, isAltered, isRefused, theIndex, itsPlaces}
-use Rattle.salvage.specs.Calls.{after, Shows, Leaves}
-use Rattle.salvage.specs.Parts.{marksOf, fateBy, mended, noted, Room}
+use Rattle.salvage.specs.Calls.{framesAfter, Shows, AllMet}
+use Rattle.salvage.specs.Parts.{marksOf, fateBy, rewritten, noted, Room}
 use Rattle.salvage.specs.declared.Counts.{Counts}
 use Rattle.salvage.specs.declared.marks.Marks.{Marks}
 use Rattle.salvage.proofs.Told.{told-few, Tells, tells-none, tells-more}
@@ -41,7 +41,7 @@ fatesBy c b F₀ n = map (fateBy c b) (take n (numbersOf F₀))
 
 pub record After (c b : List ℕ) (count : ℕ) (F₀ A₀ P₀ R₀ F A P R : List ℕ) (n a r : ℕ) : Type 0 where
   pub here : n ≤ count
-  pub file : Fresh (after (fatesBy c b F₀ n)) F₀ F
+  pub file : Fresh (framesAfter (fatesBy c b F₀ n)) F₀ F
   pub altered : Tells isAltered theIndex (fatesBy c b F₀ n) A₀ A a
   pub places : Tells isAltered itsPlaces (fatesBy c b F₀ n) P₀ P a
   pub «refused» : Tells isRefused theIndex (fatesBy c b F₀ n) R₀ R r
@@ -87,7 +87,7 @@ module _ {c b : List ℕ} {count : ℕ} {F₀ A₀ P₀ R₀ : List ℕ} (room :
 
     pub turn : Octets F₀ → (frame : ℕ) (m : Marks) {F′ A′ P′ R′ : List ℕ} {a′ r′ : ℕ}
         → frame ≡ getD (numbersOf F) n 0 → m ≡ marksOf (readBy c b frame)
-        → F′ ≡ mended F n frame (m .places)
+        → F′ ≡ rewritten F n frame (m .places)
         → P′ ≡ noted (not (eqb (m .places) 0)) P a (m .places)
         → A′ ≡ noted (not (eqb (m .places) 0)) A a n → a′ ≡ a + flag (not (eqb (m .places) 0))
         → R′ ≡ noted (m .«refused») R r n → r′ ≡ r + flag (m .«refused»)
@@ -105,7 +105,7 @@ module _ {c b : List ℕ} {count : ℕ} {F₀ A₀ P₀ R₀ : List ℕ} (room :
               (tells-more isRefused theIndex (fateBy c b f) n (m .«refused») (s .«refused») (sym many) refusal refl u v);
         }
       where
-        size-after : length (after (fatesBy c b F₀ n)) ≡ n
+        size-after : length (framesAfter (fatesBy c b F₀ n)) ≡ n
         size-after = length-map (fatesBy c b F₀ n) (λ (y : Fate). y .after) ∙ many
 
         fits : n < length F₀ / 8
@@ -123,10 +123,10 @@ module _ {c b : List ℕ} {count : ℕ} {F₀ A₀ P₀ R₀ : List ℕ} (room :
         refusal : m .«refused» ≡ isRefused (fateBy c b f)
         refusal = ap (λ (q : Marks). q .«refused») k ∙ ap (λ (x : ℕ). isRefused (fateBy c b x)) same
 
-        front : after (fatesBy c b F₀ n) ++ bitXor frame (m .places) ∷ [] ≡ after (fatesBy c b F₀ (n + 1))
+        front : framesAfter (fatesBy c b F₀ n) ++ bitXor frame (m .places) ∷ [] ≡ framesAfter (fatesBy c b F₀ (n + 1))
         front =
-            (λ i. after (fatesBy c b F₀ n) ++ bitXor (same i) (marks i) ∷ [])
-            ∙ sym (ap after one-more ∙ shown-on (λ (y : Fate). y .after) (fatesBy c b F₀ n) (fateBy c b f))
+            (λ i. framesAfter (fatesBy c b F₀ n) ++ bitXor (same i) (marks i) ∷ [])
+            ∙ sym (ap framesAfter one-more ∙ shown-on (λ (y : Fate). y .after) (fatesBy c b F₀ n) (fateBy c b f))
 
   pub over : {F A P R : List ℕ} {n a r : ℕ} → After c b count F₀ A₀ P₀ R₀ F A P R n a r → count ≤ n
       → Shows (map (fateBy c b) (take count (numbersOf F₀))) (record { was = F₀; is = F }) (record { was = A₀; is = A })
@@ -147,7 +147,7 @@ module _ {c b : List ℕ} {count : ℕ} {F₀ A₀ P₀ R₀ : List ℕ} (room :
       })
 
 pub leaves-by : {c b : List ℕ} {F A P R : Lent} {k : Counts} → MendTable c → ByteSums b → (n : ℕ) (bs : List ℕ) → Octets bs
-    → Shows (map (fateBy c b) (take n (numbersOf bs))) F A P R k → Leaves (take n (numbersOf bs)) F A P R k
+    → Shows (map (fateBy c b) (take n (numbersOf bs))) F A P R k → AllMet (take n (numbersOf bs)) F A P R k
 leaves-by {c} {b} m t n bs o s =
     record {
       fates = map (fateBy c b) (take n (numbersOf bs));

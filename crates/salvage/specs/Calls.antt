@@ -1,13 +1,13 @@
 -- What `salvage` owes: both counts and what it leaves, or the first refusal in the paper's order with all as it was.
 -- ┌────────────────┬─────────────────────────────────────────────────────────────────┐
 -- │ answer r       │ the answer that a `Salvaged` is                                 │
--- │ after ys       │ the frames after, of fates                                      │
+-- │ framesAfter ys │ the frames after, of fates                                      │
 -- │ countsOf ys    │ how many are altered, and how many refused                      │
 -- │ Shows ys F A P │ the fates ys in the lent file F and the lists A, altered, P,    │
 -- │   R k          │ places, and R, refused: the frames after at the front of the    │
 -- │                │ file, notes and trailer as they were; the entries at the front  │
 -- │                │ of each list, past them as it was; k counts them                │
--- │ Leaves fs F A  │ each of the frames fs has met its fate, which file and lists    │
+-- │ AllMet fs F A  │ each of the frames fs has met its fate, which file and lists    │
 -- │   P R k        │ show                                                            │
 -- │ anyShort fs is │ one of the lists is shorter than fs                             │
 -- │   ps rs        │                                                                 │
@@ -37,20 +37,20 @@ abbrev pub answer : Salvaged → Answer Counts
 answer (Done k) = gives k
 answer (Refused n) = refused n
 
-abbrev pub after : List Fate → List ℕ
-after ys = map (λ y. y .after) ys
+abbrev pub framesAfter : List Fate → List ℕ
+framesAfter ys = map (λ y. y .after) ys
 
 abbrev pub countsOf : List Fate → Counts
 countsOf ys = record { altered = length (alteredIn ys); «refused» = length (refusedIn ys) }
 
 pub record Shows (ys : List Fate) (F A P R : Lent) (k : Counts) : Type 0 where
-  pub file : F .is ≡ bytesOf (after ys) over F .was
+  pub file : F .is ≡ bytesOf (framesAfter ys) over F .was
   pub altered : A .is ≡ alteredIn ys over A .was
   pub places : P .is ≡ placesBeside ys over P .was
   pub «refused» : R .is ≡ refusedIn ys over R .was
   pub counts : k ≡ countsOf ys
 
-pub record Leaves (fs : List ℕ) (F A P R : Lent) (k : Counts) : Type 0 where
+pub record AllMet (fs : List ℕ) (F A P R : Lent) (k : Counts) : Type 0 where
   pub fates : List Fate
   pub each : Each Meets fs fates
   pub shows : Shows fates F A P R k
@@ -71,7 +71,7 @@ pub record AsWere (F A P R : Lent) : Type 0 where
 pub record Salvage (c : Capture) (F A P R : Lent) (k : Counts) : Type 0 where
   pub holds : Holds (F .was) c
   pub room : anyShort (c .frames) (A .was) (P .was) (R .was) ≡ false
-  pub leaves : Leaves (c .frames) F A P R k
+  pub leaves : AllMet (c .frames) F A P R k
 
 abbrev pub Salvages : Lent → Lent → Lent → Lent → Answer Counts → Type 0
 Salvages F A P R (gives k) = (c : Capture) × Salvage c F A P R k

@@ -12,7 +12,7 @@
 -- │ isRefusal a     │ the answer is a refusal                                        │
 -- │ isAltered y     │ the answer has places                                          │
 -- │ isRefused y     │ the frame is refused                                           │
--- │ told t g n ys   │ what g says of each of ys that passes the test t, in order; n  │
+-- │ picked t g n ys │ what g says of each of ys that passes the test t, in order; n  │
 -- │                 │ is the index of the first                                      │
 -- │ theIndex i y,   │ what the lists say of a fate: its index i, or its places       │
 -- │ itsPlaces i y   │                                                                │
@@ -62,9 +62,9 @@ isAltered y = not (eqb (placesIn (y .answer)) 0)
 abbrev pub isRefused : Fate → Bool
 isRefused y = isRefusal (y .answer)
 
-unfoldable pub told : (Fate → Bool) → (ℕ → Fate → ℕ) → ℕ → List Fate → List ℕ
-told t g n [] = []
-told t g n (y ∷ ys) = keep (t y) (g n y) (told t g (suc n) ys)
+unfoldable pub picked : (Fate → Bool) → (ℕ → Fate → ℕ) → ℕ → List Fate → List ℕ
+picked t g n [] = []
+picked t g n (y ∷ ys) = keep (t y) (g n y) (picked t g (suc n) ys)
 
 abbrev pub theIndex : ℕ → Fate → ℕ
 theIndex i y = i
@@ -73,10 +73,10 @@ abbrev pub itsPlaces : ℕ → Fate → ℕ
 itsPlaces i y = placesIn (y .answer)
 
 abbrev pub alteredIn : List Fate → List ℕ
-alteredIn ys = told isAltered theIndex 0 ys
+alteredIn ys = picked isAltered theIndex 0 ys
 
 abbrev pub placesBeside : List Fate → List ℕ
-placesBeside ys = told isAltered itsPlaces 0 ys
+placesBeside ys = picked isAltered itsPlaces 0 ys
 
 abbrev pub refusedIn : List Fate → List ℕ
-refusedIn ys = told isRefused theIndex 0 ys
+refusedIn ys = picked isRefused theIndex 0 ys

@@ -6,14 +6,14 @@ ghost use lib.ListN.{length, take};
 ghost use Rattle.laws.specs.Lent.{lent};
 ghost use Rattle.radix.specs.Octets.{numbersOf};
 ghost use Rattle.decoding.specs.Found.{flag};
-ghost use Rattle.salvage.specs.Calls.{Shows, Leaves};
-ghost use Rattle.salvage.specs.Parts.{fateBy, mended, noted, Room};
+ghost use Rattle.salvage.specs.Calls.{Shows, AllMet};
+ghost use Rattle.salvage.specs.Parts.{fateBy, rewritten, noted, Room};
 use crate::Counts;
 use crate::marks::marks_by;
 
 // Frame i of the file, altered at its places; where there are none nothing is written.
 fn mend(file: &mut [u8], i: usize, frame: u64, places: u64)
-    ensures { λ _. ⌜ now (file .exit) ≡ mended (now (file .entry)) i frame places ⌝ }
+    ensures { λ _. ⌜ now (file .exit) ≡ rewritten (now (file .entry)) i frame places ⌝ }
 {
     if places != 0 {
         octets::store(file, i, frame ^ places);
@@ -73,7 +73,7 @@ pub(crate) fn all(
     refused: &mut [u64],
 ) -> Counts
     requires { ⌜ Room count (now file) (now altered) (now places) (now refused) ⌝ }
-    ensures { λ k. ⌜ Leaves (take count (numbersOf (now (file .entry)))) (lent file) (lent altered) (lent places) (lent refused) k ⌝ }
+    ensures { λ k. ⌜ AllMet (take count (numbersOf (now (file .entry)))) (lent file) (lent altered) (lent places) (lent refused) k ⌝ }
 {
     let c = tables::corrections();
     let b = tables::byte_sums();

@@ -4,7 +4,7 @@ ghost use Prim.Native.Nat.{_/_, _≤_};
 ghost use lib.ListN.{length};
 ghost use Rattle.laws.specs.Lent.{_to_, lent};
 ghost use Rattle.salvage.specs.Calls.{answer, Salvages};
-ghost use Rattle.salvage.specs.Parts.{anyBelow, Within};
+ghost use Rattle.salvage.specs.Parts.{anyBelow, OfFirst};
 use capture::Labelled;
 
 mod frames;
@@ -35,7 +35,7 @@ fn any_short(count: usize, altered: usize, places: usize, refused: usize) -> boo
 }
 
 // So many frames of the file, where no list is too short for them.
-fn within(
+fn first_frames(
     count: usize,
     file: &mut [u8],
     altered: &mut [u64],
@@ -43,7 +43,7 @@ fn within(
     refused: &mut [u64],
 ) -> Salvaged
     requires { ⌜ count ≤ length (now file) / 8 ⌝ }
-    ensures { λ r. ⌜ Within count (lent file) (lent altered) (lent places) (lent refused) (answer r) ⌝ }
+    ensures { λ r. ⌜ OfFirst count (lent file) (lent altered) (lent places) (lent refused) (answer r) ⌝ }
 {
     if any_short(count, altered.len(), places.len(), refused.len()) {
         return Salvaged::Refused(paper::UNFIT);
@@ -62,7 +62,7 @@ pub fn salvage(
         (refused .entry to refused .exit) (answer r) ⌝ }
 {
     match capture::head(file) {
-        Labelled::Found(h) => within(h.count, file, altered, places, refused),
+        Labelled::Found(h) => first_frames(h.count, file, altered, places, refused),
         Labelled::Refused(n) => Salvaged::Refused(n),
     }
 }

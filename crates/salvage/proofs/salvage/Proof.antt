@@ -20,13 +20,13 @@ owed r s e =
 found : (c : tie.After-h) → Opened (c .before .before .before .before .before .before .before .before .args .file .now) (c .h .given .0 .0)
 found c = let g = c .h .given in opened _ (g .0 .0) (owed (c .before .before) (Found (g .0 .0)) (g .1))
 
-within-requires : tie.Need-within-requires
-within-requires c κs = omega (arith, found (c .before .before .before .before .before) .room)
+first-frames-requires : tie.Need-first-frames-requires
+first-frames-requires c κs = omega (arith, found (c .before .before .before .before .before) .room)
 
 returns : tie.Need-returns
 returns c =
     let w = c .before .before .before .before .before .before .before .before in
-    of-capture _ _ _ _ (found (w .before .before .before .before .before .before)) (salvage·answer (w .within .result)) (w .within .ensures)
+    of-capture _ _ _ _ (found (w .before .before .before .before .before .before)) (salvage·answer (w .first-frames .result)) (w .first-frames .ensures)
 
 returns-2 : tie.Need-returns-2
 returns-2 c =
@@ -40,7 +40,7 @@ salvage-spec =
     (tie.spec
     (search needs)
     (search needs)
-    within-requires
+    first-frames-requires
     (search needs)
     (search needs)
     (search needs)

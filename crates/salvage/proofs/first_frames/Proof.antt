@@ -1,9 +1,9 @@
--- `salvage::within` meets its contract: the lists' room, then the frames.
+-- `salvage::first_frames` meets its contract: the lists' room, then the frames.
 use mathlib.Core.Path.{refl, sym, _∙_}
 use borrow.Author.Needs.{needs}
 use Rattle.salvage.proofs.Opened.{enough-room}
-use Rattle.salvage.proofs.within.Statement.{statement}
-use Rattle.salvage.proofs.within.Tie as tie
+use Rattle.salvage.proofs.first_frames.Statement.{statement}
+use Rattle.salvage.proofs.first_frames.Tie as tie
 
 returns : tie.Need-returns
 returns c =
@@ -21,8 +21,8 @@ returns-2 c =
     let e = r .before .before .before .before .before in
     (sym (e .before .any-short .ensures) ∙ e .if1 .left, r .all .ensures)
 
-pub within-spec : {M : Type 1} → statement M
-within-spec =
+pub first-frames-spec : {M : Type 1} → statement M
+first-frames-spec =
     tie.close
     (tie.spec
     (search needs)

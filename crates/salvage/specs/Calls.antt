@@ -14,8 +14,10 @@
 -- │ Refusal bs is  │ n is what `head` refuses the file bs with; or 12, where it      │
 -- │   ps rs n      │ holds a capture and a list is too short for its frames          │
 -- │ AsWere F A P R │ file and lists are as they were                                 │
--- │ Salvages F A P │ `salvage` answers a                                             │
--- │   R a          │                                                                 │
+-- │ Salvage c F A  │ the file holds the capture c, no list is too short for it, and  │
+-- │   P R k        │ all of its frames have met their fates                          │
+-- │ Salvages F A P │ `salvage` answers a: that of the capture, or the refusal, with  │
+-- │   R a          │ all as it was                                                   │
 -- └────────────────┴─────────────────────────────────────────────────────────────────┘
 use mathlib.Core.Path.{_≡_}
 use mathlib.Core.Bool.{Bool, true, false, _||_}

@@ -51,7 +51,7 @@ fn first_frames(
     Salvaged::Done(frames::all(count, file, altered, places, refused))
 }
 
-// The capture in `file`, salvaged where it stands. Each list has room for as many entries as there are frames.
+// The capture in `file`, salvaged where it stands. Each list is to have room for as many entries as there are frames: 12 where it has not.
 pub fn salvage(
     file: &mut [u8],
     altered: &mut [u64],

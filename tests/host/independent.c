@@ -144,3 +144,12 @@ uint64_t independent_make(uint64_t data)
     frame = frame << 12 | check_bits(bits);
     return frame * 2 + (frame % 2 == 0);
 }
+
+uint64_t independent_places(struct reading r)
+{
+    uint64_t ones = r.pad_wrong ? spot(63) : 0;
+    for (int i = 0; i < 2; i++)
+        if (r.place[i] < 63)
+            ones |= spot((int)r.place[i]);
+    return ones;
+}

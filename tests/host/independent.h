@@ -14,4 +14,5 @@ struct reading {
 
 uint64_t independent_make(uint64_t data); // the frame, or 11
 struct reading independent_read(uint64_t frame);
+uint64_t independent_places(struct reading r); // ones, laid like a frame, at its flips and, where the pad is wrong, at the pad
 #endif

@@ -30,15 +30,6 @@ static int refusal(void)
     return count > MOST_FRAMES ? 23 : 0;
 }
 
-// The flips that the reader answers, and the pad where it says that it is wrong.
-static uint64_t answered(struct reading r)
-{
-    uint64_t ones = r.pad_wrong ? spot(63) : 0;
-    for (unsigned i = 0; i < r.verdict; i++)
-        ones |= spot((int)r.place[i]);
-    return ones;
-}
-
 // A readable frame becomes the frame of its data, so that the places altered are where the two differ.
 static void salvage(uint64_t i)
 {
@@ -51,7 +42,7 @@ static void salvage(uint64_t i)
     for (int position = 0; position < 64; position++)
         if ((frame & spot(position)) != (clean & spot(position)))
             places[i] |= spot(position);
-    if (places[i] != answered(r))
+    if (places[i] != independent_places(r))
         fail("frame %llx: the frame of its data and the frame without its flips differ", (shown)frame);
     put_number(file + 8 * i, clean);
 }

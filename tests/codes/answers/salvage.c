@@ -13,15 +13,6 @@ static struct {
 
 static void tell(int list, uint64_t number) { put_number(lists[list].bytes + 8 * lists[list].entries++, number); }
 
-// Ones at the flips that the reader answers and, where the pad is wrong, at the pad.
-static uint64_t answered(struct reading r)
-{
-    uint64_t ones = r.pad_wrong ? spot(63) : 0;
-    for (unsigned i = 0; i < r.verdict; i++)
-        ones |= spot((int)r.place[i]);
-    return ones;
-}
-
 // A readable frame becomes the frame of its data: it must differ from it in the places answered, no others.
 static void salvage_frame(uint64_t i)
 {
@@ -31,7 +22,7 @@ static void salvage_frame(uint64_t i)
         tell(REFUSED, i);
         return;
     }
-    uint64_t clean = independent_make(r.data), places = answered(r);
+    uint64_t clean = independent_make(r.data), places = independent_places(r);
     if ((frame ^ clean) != places)
         fail("frame %llx: the frame of its data and the frame without its flips differ", (shown)frame);
     if (places) {

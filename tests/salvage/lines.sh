@@ -121,15 +121,17 @@ whole() { # REASON COMMAND...: the account cannot be printed, and the output is 
 full_output() { salvage "$in" "$out" >/dev/full; }
 closed_output() { salvage "$in" "$out" >&-; }
 both_closed() { salvage "$in" "$out" <&- >&-; }
-some_room() { # for 24 bytes of the account
-    head -c 1000 /dev/zero >"$room/full"
+some_room() { # BYTES: room for so many of the account
+    head -c $((1024 - $1)) /dev/zero >"$room/full"
     limited "$in" "$out" >>"$room/full"
 }
 whole 'No space left on device' full_output
 whole 'Bad file descriptor' closed_output
 whole 'Bad file descriptor' both_closed
-whole 'File too large' some_room
-[ "$(wc -c <"$room/full")" = 1024 ] || stop "the account that is cut must fill its file"
+for left in 24 32 33 42 500; do # the three lines of totals are 32, the next ten
+    whole 'File too large' some_room $left
+    [ "$(wc -c <"$room/full")" = 1024 ] || stop "the account that is cut must fill its file"
+done
 
 # What cannot be said goes nowhere else.
 silent() { # STATUS COMMAND...

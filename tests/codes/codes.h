@@ -6,7 +6,7 @@
 enum { HIER_MAKE = 1, HIER_READ, DAP_MAKE, DAP_READ, BUS, START, FILL, FEED, TALLY, LANE, CAPTURE_WRITE, CAPTURE_READ, SALVAGE, KINDS };
 
 // how many values a head has, the length of a name, where each number of a head stands, and the length of a head
-enum { VALUE_COUNT = 8, NAME = 16, KIND = NAME, TAKEN = KIND + 8, LENT = TAKEN + 8, SPLIT = LENT + 8, VALUES = SPLIT + 8 };
+enum { VALUE_COUNT = 10, NAME = 16, KIND = NAME, TAKEN = KIND + 8, LENT = TAKEN + 8, SPLIT = LENT + 8, VALUES = SPLIT + 8 };
 enum { HEAD = VALUES + 8 * VALUE_COUNT };
 
 enum { LONGEST = 65536 }; // bytes of a piece or a buffer

@@ -30,7 +30,7 @@ static uint64_t zeros(size_t i) { return (void)i, 0; }
 static uint64_t ones(size_t i) { return (void)i, ~(uint64_t)0; }
 
 // The line stops at zero after 30 bits of one frame and goes on after 30 bits of another.
-static uint64_t paused(size_t i)
+uint64_t paused(size_t i)
 {
     enum { STOPS = 4000, GOES_ON = 7000 };
     uint64_t first = ~(uint64_t)0 << 34;
@@ -65,7 +65,7 @@ static uint64_t lowest_first(size_t i)
     return turned;
 }
 
-static uint64_t noise(size_t i) { return random_at(i, 0); }
+uint64_t noise(size_t i) { return random_at(i, 0); }
 
 // Each bit flips with one chance in 128.
 uint64_t chance(size_t i)
@@ -134,6 +134,7 @@ int main(int argc, char **argv)
         says_of_data();
         says_of_cuts();
         says_of_flips();
+        says_of_gaps();
         return 0;
     }
     for (size_t k = 0; k < FAULTS; k++)

@@ -12,9 +12,11 @@ extern uint64_t sent[FRAMES + 1], line[FRAMES + 1];
 enum { REPEATED = 0x11 }; // the data whose frame is sent over and over
 
 // What is received in place of line[i].
+uint64_t paused(size_t i);
 uint64_t crossed(size_t i);
 uint64_t late(size_t i, unsigned bits);       // cut 1 to 63 bits late
 uint64_t again(uint64_t data, unsigned bits); // the frame of data that is sent over and over, cut so late
+uint64_t noise(size_t i);
 uint64_t chance(size_t i);
 uint64_t burst(size_t i);
 
@@ -22,6 +24,7 @@ uint64_t burst(size_t i);
 void says_of_data(void);
 void says_of_cuts(void);
 void says_of_flips(void);
+void says_of_gaps(void);
 
 void must(int holds, const char *what);
 const char *figure(uint64_t n); // with commas; the last eight stay

@@ -64,7 +64,7 @@ static void over_and_over(void)
 
 // Random bits leave each remainder as often, and right run bits one time in eight. The last twelve of the 63 bits of a code word make
 // each remainder once.
-static void noise(void)
+static void random_frames(void)
 {
     enum { REMAINDERS = 4096 };
     unsigned none = 0, near;
@@ -84,5 +84,5 @@ void says_of_data(void)
 {
     crossed_pair();
     over_and_over();
-    noise();
+    random_frames();
 }

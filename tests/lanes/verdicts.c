@@ -1,4 +1,4 @@
-// Counts the capture on standard input through the C archive and prints the nine lines of the listing. The list call answers no pad
+// Counts the capture on standard input through the C archive and prints the ten lines of the listing. The list call answers no pad
 // flags, so each frame that it accepts is read once more by itself, and must have the same flips, check flips and data there.
 #include "../figures.h"
 #include "../../include/lakshrumov.h"
@@ -27,6 +27,18 @@ static uint64_t pad_wrong(size_t i)
     return answer[11];
 }
 
+// The most frames that follow one another without one that is read.
+static uint64_t longest_gap(size_t frames)
+{
+    size_t longest = 0, from = 0; // from: behind the last frame that is read
+    for (size_t i = 0; i < frames; i++)
+        if (verdicts[i] <= 2)
+            from = i + 1;
+        else if (longest < i + 1 - from)
+            longest = i + 1 - from;
+    return longest;
+}
+
 int main(void)
 {
     size_t have = read_capture(), left_over = have % 8;
@@ -39,6 +51,6 @@ int main(void)
         if (verdicts[i] <= 2)
             f.pad_wrong += pad_wrong(i);
     }
-    print_listing(&f, left_over);
+    print_listing(&f, left_over, longest_gap(f.frames));
     return 0;
 }

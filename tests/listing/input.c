@@ -26,6 +26,8 @@ static uint64_t lawful(uint64_t data)
     return f;
 }
 
+static uint64_t some_lawful(void) { return lawful(random64(&state) >> 16); }
+
 static uint64_t some_frame(void)
 {
     uint64_t r = random64(&state), f;
@@ -34,7 +36,7 @@ static uint64_t some_frame(void)
     case 1: return 0;
     case 2: return ~(uint64_t)0;
     default:
-        f = lawful(random64(&state) >> 16);
+        f = some_lawful();
         for (uint64_t i = 0; i < r / 16 % 5; i++)
             f ^= (uint64_t)1 << random64(&state) % 64;
         return f;
@@ -75,11 +77,82 @@ int triples(void)
     return 0;
 }
 
-int drip(void)
+// ---- frames whose verdict is known from how they are made
+
+static const struct kind {
+    const char *name;
+    int flips;
+    uint64_t pad; // 1 where it is wrong
+} kinds[] = {{"clean", 0, 0}, {"one", 1, 0}, {"two", 2, 0}, {"clean-pad", 0, 1}, {"one-pad", 1, 1}, {"two-pad", 2, 1}};
+enum { KINDS = sizeof kinds / sizeof kinds[0] };
+
+// 60, 61 and 62 flipped is 13, and the code is cyclic: so are any three neighbours.
+static uint64_t no_word(void)
 {
-    uint8_t byte;
-    while (read(0, &byte, 1) == 1)
-        if (write(1, &byte, 1) != 1)
+    int place = (int)(random64(&state) % 61);
+    return some_lawful() ^ spot(place) ^ spot(place + 1) ^ spot(place + 2);
+}
+
+static uint64_t readable(const struct kind *k)
+{
+    int first = (int)(random64(&state) % 63), second = (first + 1 + (int)(random64(&state) % 62)) % 63;
+    return some_lawful() ^ k->pad ^ (k->flips > 0 ? spot(first) : 0) ^ (k->flips > 1 ? spot(second) : 0);
+}
+
+// Whether the name stands first in a list, as in no-word,clean.
+static int is(const char *list, const char *name)
+{
+    for (; *name && *list == *name; list++)
+        name++;
+    return !*name && (!*list || *list == ',');
+}
+
+// 0 where the frame of the list's first kind is written, 2 where there is no such kind.
+static int put_kind(const char *list)
+{
+    if (is(list, "no-word"))
+        return put(no_word(), 8);
+    // two lawful frames add up to a code word with every run bit wrong, and none to two flips leave it the nearest
+    if (is(list, "run-broken"))
+        return put(some_lawful() ^ readable(kinds + random64(&state) % 3), 8);
+    for (int k = 0; k < KINDS; k++)
+        if (is(list, kinds[k].name))
+            return put(readable(kinds + k), 8);
+    return 2;
+}
+
+static int put_in_turn(const char *list, uint64_t n)
+{
+    const char *kind = list;
+    for (; n > 0; n--) {
+        int failed = put_kind(kind);
+        if (failed)
+            return failed;
+        while (*kind && *kind != ',')
+            kind++;
+        kind = *kind ? kind + 1 : list;
+    }
+    return 0;
+}
+
+int plan(char **words)
+{
+    for (; words[0] && words[1]; words += 2) {
+        uint64_t n = strtoul(words[1], NULL, 10);
+        int failed = is(words[0], "left-over") ? put(0, n) : put_in_turn(words[0], n);
+        if (failed)
+            return failed;
+    }
+    return 0;
+}
+
+int drip(size_t n)
+{
+    static uint8_t piece[65536];
+    if (n > sizeof piece)
+        return 2;
+    for (long got; (got = read(0, piece, n)) > 0;)
+        if (write(1, piece, (size_t)got) != got)
             return 1;
     return 0;
 }

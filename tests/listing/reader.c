@@ -57,7 +57,7 @@ static int solve(int s1, int s3, int place[2])
 
 static int is_check_bit(int position) { return position >= 51 && position <= 62; }
 
-void one_frame(const uint8_t bytes[8], struct figures *f)
+int one_frame(const uint8_t bytes[8], struct figures *f)
 {
     int bits[64], place[2];
     for (int i = 0; i < 64; i++)
@@ -66,17 +66,18 @@ void one_frame(const uint8_t bytes[8], struct figures *f)
     int flips = solve(at(bits, 1), at(bits, 3), place);
     if (flips < 0) {
         f->verdict[13]++;
-        return;
+        return 1;
     }
     for (int i = 0; i < flips; i++)
         bits[place[i]] ^= 1;
     if (bits[16] == bits[15] || bits[33] == bits[32] || bits[50] == bits[49]) {
         f->verdict[14]++;
-        return;
+        return 1;
     }
     f->verdict[flips]++;
     for (int i = 0; i < flips; i++)
         f->check_flips += is_check_bit(place[i]);
     if (bits[63] == bits[62])
         f->pad_wrong++;
+    return 0;
 }

@@ -1,6 +1,6 @@
-// Answers the cases on standard input, a line a case, until one's head is not all there. A head is 112 bytes: a name of 16, which begins
-// the line, and twelve numbers of eight bytes, highest first: the kind, how many bytes follow, how many are lent, how many of these are
-// the first part, and eight values, a to h. One buffer of 65,537 bytes, all 0 at first, serves all cases: the bytes that follow are read
+// Answers the cases on standard input, a line a case, until one's head is not all there. A head is 128 bytes: a name of 16, which begins
+// the line, and fourteen numbers of eight bytes, highest first: the kind, how many bytes follow, how many are lent, how many of these are
+// the first part, and ten values, a to j. One buffer of 65,537 bytes, all 0 at first, serves all cases: the bytes that follow are read
 // to its front, and what is lent is its front. A length is held to what there is, and a value to the width of what it stands for.
 //
 //  1 hier make      data a
@@ -11,9 +11,9 @@
 //  6 pattern start  pattern a, register b: the generator's, the counter's
 //  7 pattern fill   pattern a, register b; of what is lent and filled the first part is shown
 //  8 pattern feed   pattern a, filled b, register c, bits d, errors e: fed the first part; and the report before it is fed
-//  9 tally add      the seven counts a to g; the verdicts are the first part, the flags the first h bytes of the second, the check flips
+//  9 tally add      the nine counts a to i; the verdicts are the first part, the flags the first j bytes of the second, the check flips
 //                   the rest of it
-// 10 lane count     the seven counts a to g; the piece is the first part. So is any kind that is not here
+// 10 lane count     the nine counts a to i; the piece is the first part. So is any kind that is not here
 // 11 capture write  lane a, length of the output b; the frames are the first part, the notes the second: written from numbers, the first
 //                   part's whole eights, and from its bytes. Every byte of the outputs is shown where c is 1
 // 12 capture read   lengths of the lists a, of numbers, and b, of bytes; the file is the first part: its head, its frames in either list,
@@ -85,7 +85,7 @@ fn whole(i: Input) -> bool {
 
 // One case, answered; whether there may be another.
 fn turn(buffer: &mut [u8]) -> bool {
-    let mut head = [0u8; 112];
+    let mut head = [0u8; 128];
     if !whole(input::load(STDIN_FILENO, &mut head)) {
         return false;
     }

@@ -14,13 +14,15 @@ fn handed_in(head: &[u8]) -> Tally {
         run_broken: octets::number(head, 10),
         pad_wrong: octets::number(head, 11),
         check_flips: octets::number(head, 12),
+        current: octets::number(head, 13),
+        longest: octets::number(head, 14),
     }
 }
 
 fn tallied(t: Tally) {
     say::three(t.clean, t.one, t.two);
     say::three(t.no_word, t.run_broken, t.pad_wrong);
-    say::number(t.check_flips);
+    say::three(t.check_flips, t.current, t.longest);
 }
 
 // One verdict with one flag and one number of check flips goes by the call for one.
@@ -37,8 +39,8 @@ fn added<'a>(t: Tally, verdicts: &[u8], pads: &'a [u8], checks: &'a [u8]) -> Add
 
 // The flags are the front of the rest, the check flips what is behind them.
 pub(crate) fn add(head: &[u8], verdicts: &[u8], rest: &[u8]) {
-    let h = fields::within(head, 13, rest);
-    match added(handed_in(head), verdicts, &rest[..h], &rest[h..]) {
+    let j = fields::within(head, 15, rest);
+    match added(handed_in(head), verdicts, &rest[..j], &rest[j..]) {
         Added::Next(t) => tallied(t),
         Added::Refused(n) => say::refused(n),
     }

@@ -71,7 +71,7 @@ fn refused_lines(out: &mut [u8], at: usize, t: Tally) -> usize
     line(out, no_word, b"run-broken ", t.run_broken)
 }
 
-// Puts the listing of u at the start of `out`, and answers its length, 261 at most.
+// Puts the listing of u at the start of `out`, and answers its length, 294 at most.
 pub fn text(u: Totals, out: &mut [u8; 512]) -> usize
     ensures { λ r. ⌜ Says u (now (out .entry)) r (now (out .exit)) ⌝ }
 {
@@ -81,5 +81,6 @@ pub fn text(u: Totals, out: &mut [u8; 512]) -> usize
     let refused = refused_lines(out, accepted, t);
     let pads = line(out, refused, b"pad-wrong ", t.pad_wrong);
     let checks = line(out, pads, b"check-flips ", t.check_flips);
-    line(out, checks, b"left-over ", u.left)
+    let left = line(out, checks, b"left-over ", u.left);
+    line(out, left, b"longest-gap ", t.longest)
 }

@@ -1,9 +1,6 @@
 -- The answers by their cases.
 -- ┌────────────────┬───────────────────────────────────────────────────────────────┐
 -- │ tests          │ the refusals of what is told, in the order of the tests       │
--- │ few-frames     │ what the range of a state says of its frames                  │
--- │ few-pads       │ of its wrong pads                                             │
--- │ few-checks     │ and of its check flips                                        │
 -- │ refuse-…       │ the refusals                                                  │
 -- │ accept         │ the next tally, 11 for what is told, or 20 for its total      │
 -- │ past-told      │ no room: 20, where what is told is known                      │
@@ -16,15 +13,15 @@ use mathlib.Core.Path.{_≡_, refl, sym, ap, _∙_, subst}
 use mathlib.Core.Bool.{Bool, true, false, cond, not, _&&_, _||_}
 use mathlib.Core.List.{List}
 use Prim.Native.Nat.{ℕ, _+_, _≤_, _<_}
-use borrow.Author.Tests.{eq-eqb, ne-eqb, eqb-true, lt-ltb, le-ltb, ltb-false, le-leb, leb-true}
-use lib.Dec.{eqb, ltb, leb}
+use borrow.Author.Tests.{eq-eqb, ne-eqb, eqb-true, lt-ltb, le-ltb, ltb-false}
+use lib.Dec.{eqb, ltb}
 use lib.ListN.{length}
 use Rattle.paper.specs.Numbers.{unfit, outside, pastCount, mostCounted, unless}
 use Rattle.paper.specs.Answer.{Answer, gives, refused, owed}
 use Rattle.paper.proofs.Answer.{either, known-by, gives-one, never-both}
 use Rattle.laws.proofs.Truth.{neither}
 use Rattle.tally.specs.Told.{Told, told}
-use Rattle.tally.specs.Ranges.{known, acceptedIn, framesIn, flipsIn, inRange}
+use Rattle.tally.specs.Ranges.{known, framesIn, inRange}
 use Rattle.tally.specs.Fold.{after}
 use Rattle.tally.specs.Answers.{answer, howMany}
 use Rattle.tally.specs.Calls.{refusal, unequal, Adds, Sums}
@@ -35,25 +32,11 @@ use Rattle.tally.specs.declared.Added.{Added}
 use Rattle.tally.specs.declared.Added.the-variants.{Next, Refused}
 use Rattle.tally.specs.declared.HowMany.{HowMany}
 use Rattle.tally.specs.declared.HowMany.the-variants as many
-use Rattle.tally.proofs.Laws.{four}
-use Rattle.tally.proofs.Steps.{told-length, counts-each, pads-few, checks-few}
+use Rattle.tally.proofs.Steps.{told-length, counts-each}
+use Rattle.tally.proofs.Ranges.{keeps-range}
 
 abbrev pub tests : Bool → Bool → Bool → ℕ
 tests inside told past = cond (not (inside && told)) outside (cond past pastCount 0)
-
-module _ (t : Tally) (e : inRange t ≡ true) where
-  each : (leb (framesIn t) mostCounted ≡ true) × (leb (t .«pad_wrong») (acceptedIn t) ≡ true)
-      × (leb (t .«check_flips») (flipsIn t) ≡ true) × (leb (t .«check_flips») mostCounted ≡ true)
-  each = four _ _ _ _ e
-
-  pub few-frames : framesIn t ≤ mostCounted
-  few-frames = leb-true (framesIn t) mostCounted (each .0)
-
-  pub few-pads : t .«pad_wrong» ≤ acceptedIn t
-  few-pads = leb-true (t .«pad_wrong») (acceptedIn t) (each .1)
-
-  pub few-checks : t .«check_flips» ≤ flipsIn t
-  few-checks = leb-true (t .«check_flips») (flipsIn t) (each .2)
 
 -- the ways of a call
 module _ (t : Tally) (vs ps cs : List ℕ) where
@@ -188,6 +171,4 @@ one-sum t r s p q = sum-one r s (p ∙ sym q)
 pub stays-in-range : StaysInRange
 stays-in-range t u vs ps cs a =
     let k = taken t u vs ps cs a in
-    let p = pads-few t (told vs ps cs) (k .told) (few-pads t (k .range)) in
-    let c = checks-few t (told vs ps cs) (k .told) (few-checks t (k .range)) in
-    ap inRange (k .next) ∙ simp (le-leb _ _ (k .room), le-leb _ _ p, le-leb _ _ c, le-leb _ _ (k .total))
+    ap inRange (k .next) ∙ keeps-range t (told vs ps cs) (k .range) (k .told) (k .room) (k .total)

@@ -1,7 +1,7 @@
 -- Laws of tests, none of them about a tally.
 -- ┌─────────────┬──────────────────────────────────────────────────────────────────┐
 -- │ at-most-one │ a test counts once at most                                       │
--- │ four        │ the parts of a test that is four, as equations                   │
+-- │ six         │ the parts of a test that is six, as equations                    │
 -- └─────────────┴──────────────────────────────────────────────────────────────────┘
 use mathlib.Core.Path.{_≡_}
 use mathlib.Core.Bool.{Bool, true, false, cond, _&&_}
@@ -13,9 +13,12 @@ pub at-most-one : (b : Bool) → cond b 1 0 ≤ 1
 at-most-one true = omega arith
 at-most-one false = omega arith
 
-pub four : (a b c d : Bool) → a && b && c && d ≡ true → (a ≡ true) × (b ≡ true) × (c ≡ true) × (d ≡ true)
-four a b c d e =
-    let z = two (a && b && c) d e in
-    let y = two (a && b) c (z .0) in
-    let x = two a b (y .0) in
-    (x .0, x .1, y .1, z .1)
+pub six : (a b c d e f : Bool) → a && b && c && d && e && f ≡ true
+    → (a ≡ true) × (b ≡ true) × (c ≡ true) × (d ≡ true) × (e ≡ true) × (f ≡ true)
+six a b c d e f h =
+    let z = two (a && b && c && d && e) f h in
+    let y = two (a && b && c && d) e (z .0) in
+    let x = two (a && b && c) d (y .0) in
+    let w = two (a && b) c (x .0) in
+    let v = two a b (w .0) in
+    (v .0, v .1, w .1, x .1, y .1, z .1)

@@ -1,6 +1,9 @@
 pub mod Laws
 pub mod Verdicts
+pub mod Stretches
 pub mod Steps
+pub mod Ranges
+pub mod Numbers
 pub mod Scan
 pub mod Answers
 pub mod Histories

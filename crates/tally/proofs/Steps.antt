@@ -8,12 +8,10 @@
 -- │ from-none       │ and from fresh is that count                                 │
 -- │ step-frames     │ a verdict is one frame                                       │
 -- │ step-spare      │ and keeps the room for those that follow                     │
--- │ pads-few        │ only accepted frames have a wrong pad                        │
--- │ checks-few      │ only flips are check flips                                   │
 -- │ in-pieces …     │ the statements of specs/Claims.antt by these names           │
 -- └─────────────────┴──────────────────────────────────────────────────────────────┘
 use mathlib.Core.Path.{_≡_, refl, sym, ap}
-use mathlib.Core.Bool.{Bool, true, false, _&&_, _||_}
+use mathlib.Core.Bool.{Bool, true, false, cond, _&&_}
 use mathlib.Core.List.{List, [], _∷_}
 use Prim.Native.Nat.{ℕ, suc, _+_, _≤_}
 use native.Mathlib.Nat.{add-zero}
@@ -22,20 +20,32 @@ use lib.Dec.{eqb}
 use lib.ListN.{length}
 use Rattle.laws.proofs.Truth.{two}
 use Rattle.tally.specs.Told.{Told, told}
-use Rattle.tally.specs.Ranges.{accepted, isVerdict, isKnown, known, acceptedIn, framesIn, flipsIn}
+use Rattle.tally.specs.Ranges.{accepted, isVerdict, isKnown, known, framesIn}
 use Rattle.tally.specs.Counts.{often, wrongPads, allChecks, fresh}
 use Rattle.tally.specs.Fold.{once, step, after}
 use Rattle.tally.specs.Parts.{Alike, Spare}
 use Rattle.tally.specs.Claims.{InPieces, FromFresh, CountsEach}
 use Rattle.tally.specs.declared.Tally.{Tally}
 use Rattle.tally.proofs.Laws.{at-most-one}
-use Rattle.tally.proofs.Verdicts.{verdict-ind, flips-count, parts, at-most-two}
+use Rattle.tally.proofs.Stretches.{longest-fresh, current-fresh}
+use Rattle.tally.proofs.Verdicts.{verdict-ind, parts, at-most-two}
 
 pub tally-eq : {t u : Tally} → t .clean ≡ u .clean → t .one ≡ u .one → t .two ≡ u .two
     → t .«no_word» ≡ u .«no_word» → t .«run_broken» ≡ u .«run_broken»
-    → t .«pad_wrong» ≡ u .«pad_wrong» → t .«check_flips» ≡ u .«check_flips» → t ≡ u
-tally-eq a b c d e f g =
-    λ i. record { clean = a i; one = b i; two = c i; «no_word» = d i; «run_broken» = e i; «pad_wrong» = f i; «check_flips» = g i }
+    → t .«pad_wrong» ≡ u .«pad_wrong» → t .«check_flips» ≡ u .«check_flips»
+    → t .current ≡ u .current → t .longest ≡ u .longest → t ≡ u
+tally-eq a b c d e f g h k =
+    λ i. record {
+      clean = a i;
+      one = b i;
+      two = c i;
+      «no_word» = d i;
+      «run_broken» = e i;
+      «pad_wrong» = f i;
+      «check_flips» = g i;
+      current = h i;
+      longest = k i;
+    }
 
 pub told-length : (vs ps cs : List ℕ) → Alike vs ps cs → length (told vs ps cs) ≡ length vs
 unfolding told
@@ -74,6 +84,7 @@ from-fresh xs =
     (from-none (λ t. t .«pad_wrong») (λ x. once (accepted (x .verdict) && eqb (x .pad) 1)) (λ t x. refl) wrongPads refl
     (λ x ys. refl) refl xs)
     (from-none (λ t. t .«check_flips») (λ x. x .checks) (λ t x. refl) allChecks refl (λ x ys. refl) refl xs)
+    (current-fresh xs) (longest-fresh xs)
   where
     count : (f : Tally → ℕ) (k : ℕ) → ((t : Tally) (x : Told) → f (step t x) ≡ f t + once (eqb (x .verdict) k)) → f fresh ≡ 0
         → f (after fresh xs) ≡ often k xs
@@ -87,6 +98,10 @@ pub step-frames : (t : Tally) (x : Told) → isKnown x ≡ true → framesIn (st
 unfolding step
 step-frames t x e = omega (arith, five (x .verdict) (parts x e .0))
 
+stretch-few : (a : Bool) (c : ℕ) → cond a 0 (c + 1) ≤ c + 1
+stretch-few true c = omega arith
+stretch-few false c = omega arith
+
 pub step-spare : (t : Tally) (x : Told) (n : ℕ) → isKnown x ≡ true → Spare t (suc n) → Spare (step t x) n
 unfolding step
 step-spare t x n e f =
@@ -94,6 +109,7 @@ step-spare t x n e f =
       frames = omega (arith, step-frames t x e, f .frames);
       pads = omega (arith, at-most-one (accepted (x .verdict) && eqb (x .pad) 1), f .pads);
       checks = omega (arith, at-most-two x e, f .checks);
+      stretch = omega (arith, stretch-few (accepted (x .verdict)) (t .current), f .stretch);
     }
 
 pub counts-each : CountsEach
@@ -102,26 +118,3 @@ counts-each t [] e = sym (add-zero (framesIn t))
 counts-each t (x ∷ xs) e =
     let a = two (isKnown x) (known xs) e in
     omega (arith, counts-each (step t x) xs (a .1), step-frames t x (a .0))
-
-wrong-one : (a b c d : Bool) → once ((a || b || c) && d) ≤ once a + once b + once c
-wrong-one true b c true = omega arith
-wrong-one true b c false = omega arith
-wrong-one false true c true = omega arith
-wrong-one false true c false = omega arith
-wrong-one false false true true = omega arith
-wrong-one false false true false = omega arith
-wrong-one false false false d = omega arith
-
-pub pads-few : (t : Tally) (xs : List Told) → known xs ≡ true
-    → t .«pad_wrong» ≤ acceptedIn t → after t xs .«pad_wrong» ≤ acceptedIn (after t xs)
-unfolding step
-pads-few =
-    kept (λ t. t .«pad_wrong» ≤ acceptedIn t)
-    (λ t x e h. omega (arith, wrong-one (eqb (x .verdict) 0) (eqb (x .verdict) 1) (eqb (x .verdict) 2) (eqb (x .pad) 1)))
-
-pub checks-few : (t : Tally) (xs : List Told) → known xs ≡ true
-    → t .«check_flips» ≤ flipsIn t → after t xs .«check_flips» ≤ flipsIn (after t xs)
-unfolding step
-checks-few =
-    kept (λ t. t .«check_flips» ≤ flipsIn t)
-    (λ t x e h. omega (arith, parts x e .2, flips-count (x .verdict) (parts x e .0)))

@@ -14,9 +14,18 @@
 -- │ OneSum         │ no second answer fits the promise of `frames`                  │
 -- │ CountsHistory  │ after any calls from fresh the tally is the counts over the    │
 -- │                │ verdicts accepted                                              │
+-- │ SomeUnbroken   │ its longest is the length of some unbroken part of refused     │
+-- │                │ verdicts among these                                           │
+-- │ NoLonger       │ and none is longer                                             │
+-- │ SomeAtEnd      │ its current is the length of such a part at their end          │
+-- │ NoLongerAtEnd  │ and none at the end is longer                                  │
 -- │ SomeHistory    │ any calls are a history, from any tally                        │
 -- │ OneHistory     │ and only one                                                   │
 -- │ InPieces       │ lists added one after the other are their joining              │
+-- │ LongestJoined  │ the longest stretch of a joining is one of the two lists or    │
+-- │                │ lies across the seam                                           │
+-- │ CurrentJoined  │ the current one begins in the second list, or ahead of all of  │
+-- │                │ it                                                             │
 -- │ FromFresh      │ what is added to a fresh tally is the counts                   │
 -- │ CountsEach     │ each verdict is one frame of the five counts                   │
 -- │ StaysInRange   │ the next tally is in its range                                 │
@@ -24,14 +33,15 @@
 -- │ OutsideIsNew   │ where 11 is then only for what is newly told                   │
 -- └────────────────┴────────────────────────────────────────────────────────────────┘
 use mathlib.Core.Path.{_≡_}
-use mathlib.Core.Bool.{true, false}
+use mathlib.Core.Bool.{true, false, cond}
 use mathlib.Core.List.{List, [], _∷_, _++_}
-use Prim.Native.Nat.{ℕ, _+_}
+use Prim.Native.Nat.{ℕ, _+_, _≤_, max}
 use lib.ListN.{length}
 use Rattle.paper.specs.Numbers.{outside}
 use Rattle.paper.specs.Answer.{gives, refused}
 use Rattle.tally.specs.Told.{Told, told}
 use Rattle.tally.specs.Ranges.{known, framesIn, inRange}
+use Rattle.tally.specs.Stretches.{allRefused, leading, longest, current, Stretch}
 use Rattle.tally.specs.Counts.{fresh, counts}
 use Rattle.tally.specs.Fold.{after}
 use Rattle.tally.specs.Answers.{answer, howMany}
@@ -80,6 +90,26 @@ OneSum = (t : Tally) (r s : HowMany) → Sums t (howMany r) → Sums t (howMany 
 abbrev pub CountsHistory : Type 0
 CountsHistory = (cs : List Call) (xs : List Told) (u : Tally) → History fresh cs xs u → u ≡ counts xs
 
+abbrev pub SomeUnbroken : Type 0
+SomeUnbroken =
+    (cs : List Call) (xs : List Told) (u : Tally) → History fresh cs xs u
+    → (ys zs : List Told) × Stretch xs ys zs × (length ys ≡ u .longest)
+
+abbrev pub NoLonger : Type 0
+NoLonger =
+    (cs : List Call) (xs : List Told) (u : Tally) → History fresh cs xs u
+    → (ys zs : List Told) → Stretch xs ys zs → length ys ≤ u .longest
+
+abbrev pub SomeAtEnd : Type 0
+SomeAtEnd =
+    (cs : List Call) (xs : List Told) (u : Tally) → History fresh cs xs u
+    → (ys : List Told) × Stretch xs ys [] × (length ys ≡ u .current)
+
+abbrev pub NoLongerAtEnd : Type 0
+NoLongerAtEnd =
+    (cs : List Call) (xs : List Told) (u : Tally) → History fresh cs xs u
+    → (ys : List Told) → Stretch xs ys [] → length ys ≤ u .current
+
 abbrev pub SomeHistory : Type 0
 SomeHistory = (t : Tally) (cs : List Call) → (xs : List Told) × (u : Tally) × History t cs xs u
 
@@ -90,6 +120,12 @@ OneHistory =
 
 abbrev pub InPieces : Type 0
 InPieces = (t : Tally) (xs ys : List Told) → after t (xs ++ ys) ≡ after (after t xs) ys
+
+abbrev pub LongestJoined : Type 0
+LongestJoined = (xs ys : List Told) → longest (xs ++ ys) ≡ max (longest xs) (max (current xs + leading ys) (longest ys))
+
+abbrev pub CurrentJoined : Type 0
+CurrentJoined = (xs ys : List Told) → current (xs ++ ys) ≡ cond (allRefused ys) (current xs + length ys) (current ys)
 
 abbrev pub FromFresh : Type 0
 FromFresh = (xs : List Told) → after fresh xs ≡ counts xs

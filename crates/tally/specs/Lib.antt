@@ -1,5 +1,6 @@
 pub mod Told
 pub mod Ranges
+pub mod Stretches
 pub mod Counts
 pub mod Fold
 pub mod Answers

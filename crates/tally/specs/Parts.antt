@@ -26,6 +26,7 @@ pub record Spare (t : Tally) (n : ℕ) : Type 0 where
   pub frames : framesIn t + n < 2 ^ 64
   pub pads : t .«pad_wrong» + n < 2 ^ 64
   pub checks : t .«check_flips» + 2 * n < 2 ^ 64
+  pub stretch : t .current + n < 2 ^ 64
 
 unfoldable pub Folds : Tally → List Told → Answer Tally → Type 0
 Folds t xs a = a ≡ owed (unless outside (known xs)) (after t xs)

@@ -7,6 +7,7 @@
 -- │ isKnown x      │ a verdict byte, a pad flag, and no more check flips than flips │
 -- │ known xs       │ each of them                                                   │
 -- │ acceptedIn t   │ the accepted frames of a tally                                 │
+-- │ refusedCount t │ its refused ones                                               │
 -- │ framesIn t     │ all its frames: the sum of the five verdict counts             │
 -- │ flipsIn t      │ all its flips: one-flip plus twice two-flip                    │
 -- │ inRange t      │ the state t is in its range                                    │
@@ -41,6 +42,9 @@ known (x ∷ xs) = isKnown x && known xs
 abbrev pub acceptedIn : Tally → ℕ
 acceptedIn t = t .clean + t .one + t .two
 
+abbrev pub refusedCount : Tally → ℕ
+refusedCount t = t .«no_word» + t .«run_broken»
+
 abbrev pub framesIn : Tally → ℕ
 framesIn t = acceptedIn t + t .«no_word» + t .«run_broken»
 
@@ -51,3 +55,4 @@ abbrev pub inRange : Tally → Bool
 inRange t =
     leb (framesIn t) mostCounted && leb (t .«pad_wrong») (acceptedIn t)
     && leb (t .«check_flips») (flipsIn t) && leb (t .«check_flips») mostCounted
+    && leb (t .current) (t .longest) && leb (t .longest) (refusedCount t)

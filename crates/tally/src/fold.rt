@@ -1,7 +1,7 @@
 // The fold: one frame after another, from the tally handed in.
 ghost use mathlib.Core.Path.{_≡_};
 ghost use mathlib.Core.Bool.{true};
-ghost use Prim.Native.Nat.{_≤_};
+ghost use Prim.Native.Nat.{_≤_, _<_, max};
 ghost use lib.Dec.{eqb};
 ghost use lib.ListN.{length};
 ghost use Rattle.tally.specs.Told.{told};
@@ -40,7 +40,32 @@ fn same(a: u8, b: u8) -> u64
     if a == b { 1 } else { 0 }
 }
 
-// A refused frame has no pad flag to count, and no check flips.
+fn larger(a: u64, b: u64) -> u64
+    ensures { λ r. ⌜ r ≡ max a b ⌝ }
+{
+    if a < b { b } else { a }
+}
+
+// A refused frame has no pad flag to count and no check flips, and lengthens the stretch.
+fn step_refused(t: Tally, verdict: u8) -> Tally
+    requires { ⌜ Spare t 1 × (2 < verdict) ⌝ }
+    ensures { λ r. ⌜ r ≡ step t (record { verdict = verdict; pad = 0; checks = 0 }) ⌝ }
+{
+    let stretch = t.current + 1;
+    Tally {
+        clean: t.clean,
+        one: t.one,
+        two: t.two,
+        no_word: t.no_word + same(verdict, NO_WORD),
+        run_broken: t.run_broken + same(verdict, RUN_BROKEN),
+        pad_wrong: t.pad_wrong,
+        check_flips: t.check_flips,
+        current: stretch,
+        longest: larger(t.longest, stretch),
+    }
+}
+
+// An accepted frame ends the stretch.
 fn step(t: Tally, verdict: u8, pad: u8, checks: u8) -> Tally
     requires { ⌜ Spare t 1 × (isKnown (record { verdict = verdict; pad = pad; checks = checks }) ≡ true) ⌝ }
     ensures { λ r. ⌜ r ≡ step t (record { verdict = verdict; pad = pad; checks = checks }) ⌝ }
@@ -55,6 +80,8 @@ fn step(t: Tally, verdict: u8, pad: u8, checks: u8) -> Tally
             run_broken: t.run_broken,
             pad_wrong: t.pad_wrong + pad as u64,
             check_flips: t.check_flips,
+            current: 0,
+            longest: t.longest,
         };
     }
     if verdict < 3 {
@@ -66,17 +93,11 @@ fn step(t: Tally, verdict: u8, pad: u8, checks: u8) -> Tally
             run_broken: t.run_broken,
             pad_wrong: t.pad_wrong + pad as u64,
             check_flips: t.check_flips + checks as u64,
+            current: 0,
+            longest: t.longest,
         };
     }
-    Tally {
-        clean: t.clean,
-        one: t.one,
-        two: t.two,
-        no_word: t.no_word + same(verdict, NO_WORD),
-        run_broken: t.run_broken + same(verdict, RUN_BROKEN),
-        pad_wrong: t.pad_wrong,
-        check_flips: t.check_flips,
-    }
+    step_refused(t, verdict)
 }
 
 // The tally with lists of equal lengths added, or 11 where they hold what is not known.

@@ -8,8 +8,8 @@ ghost use Rattle.tally.specs.Calls.{Adds, Sums};
 mod fold;
 mod range;
 
-// How many frames were clean, had one or two flips, were 13 or 14; of the accepted ones, how many had a wrong pad; and how many of all
-// their flips were in check bits.
+// How many frames were clean, had one or two flips, were 13 or 14; of the accepted ones, how many had a wrong pad; how many of all their
+// flips were in check bits; and the unbroken stretch of refused frames up to now, and the longest one.
 pub struct Tally {
     pub clean: u64,
     pub one: u64,
@@ -18,6 +18,8 @@ pub struct Tally {
     pub run_broken: u64,
     pub pad_wrong: u64,
     pub check_flips: u64,
+    pub current: u64,
+    pub longest: u64,
 }
 
 // The next tally, or 12, 11, 20. Only the first holds a state: after a refusal the caller still has the one it passed.
@@ -44,6 +46,8 @@ impl Tally {
             run_broken: 0,
             pad_wrong: 0,
             check_flips: 0,
+            current: 0,
+            longest: 0,
         }
     }
 

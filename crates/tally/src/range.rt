@@ -1,11 +1,22 @@
 // The range of a tally, and its frames.
 ghost use mathlib.Core.Path.{_≡_};
+ghost use mathlib.Core.Bool.{_&&_};
 ghost use Prim.Native.Nat.{_-_, _≤_};
 ghost use lib.Dec.{leb};
 ghost use Rattle.paper.specs.Numbers.{mostCounted};
-ghost use Rattle.tally.specs.Ranges.{framesIn, inRange};
+ghost use Rattle.tally.specs.Ranges.{refusedCount, framesIn, inRange};
 use crate::Tally;
 use paper::MOST_COUNTED;
+
+fn stretches_in_range(t: Tally) -> bool
+    requires { ⌜ framesIn t ≤ mostCounted ⌝ }
+    ensures { λ r. ⌜ r ≡ leb (t .current) (t .longest) && leb (t .longest) (refusedCount t) ⌝ }
+{
+    if t.current > t.longest {
+        return false;
+    }
+    t.longest <= t.no_word + t.run_broken
+}
 
 // Each count is tested before the sum, which then fits.
 pub(crate) fn in_range(t: Tally) -> bool
@@ -36,7 +47,10 @@ pub(crate) fn in_range(t: Tally) -> bool
     if t.check_flips > t.one + 2 * t.two {
         return false;
     }
-    t.check_flips <= MOST_COUNTED
+    if t.check_flips > MOST_COUNTED {
+        return false;
+    }
+    stretches_in_range(t)
 }
 
 pub(crate) fn frames_in(t: Tally) -> u64

@@ -2,7 +2,7 @@
 -- ┌───────────────┬──────────────────────────────────────────────────────────────┐
 -- │ worth n ds    │ the number that digits in ASCII are, after those of n        │
 -- │ three         │ the totals of the paper's three frames                       │
--- │ PapersListing │ the nine lines that the paper prints                         │
+-- │ PapersListing │ the ten lines that the paper prints                          │
 -- │ DigitsBack    │ the digits of a 64-bit number are worth that number          │
 -- │ hexValue d    │ the number that a hexadecimal digit in ASCII is              │
 -- │ hexWorth ds   │ the number that such digits are                              │
@@ -26,14 +26,26 @@ worth n (d ∷ ds) = worth (n * 10 + (d - 48)) ds
 abbrev pub three : Totals
 three =
     record {
-      tally = record { clean = 1; one = 0; two = 1; «no_word» = 1; «run_broken» = 0; «pad_wrong» = 0; «check_flips» = 1 };
+      tally =
+          record {
+            clean = 1;
+            one = 0;
+            two = 1;
+            «no_word» = 1;
+            «run_broken» = 0;
+            «pad_wrong» = 0;
+            «check_flips» = 1;
+            current = 1;
+            longest = 1;
+          };
       frames = 3;
       left = 0;
     }
 
 abbrev pub PapersListing : Type 0
 PapersListing =
-    text three ≡ ascii "frames 3\nclean 1\none 0\ntwo 1\nno-word 1\nrun-broken 0\npad-wrong 0\ncheck-flips 1\nleft-over 0\n"
+    text three
+    ≡ ascii "frames 3\nclean 1\none 0\ntwo 1\nno-word 1\nrun-broken 0\npad-wrong 0\ncheck-flips 1\nleft-over 0\nlongest-gap 1\n"
 
 abbrev pub DigitsBack : Type 0
 DigitsBack = (n : ℕ) → n < 2 ^ 64 → worth 0 (decimal n) ≡ n

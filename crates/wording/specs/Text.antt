@@ -1,4 +1,4 @@
--- The listing of a lane, as bytes: nine lines, each a name, a number in decimal and a line end.
+-- The listing of a lane, as bytes: ten lines, each a name, a number in decimal and a line end.
 -- ┌─────────────────┬──────────────────────────────────────────────────────────────┐
 -- │ ascii s         │ the codes of the characters of the text s                    │
 -- │ spelled k n     │ the digits of n, k at most: of a number below ten itself, of │
@@ -46,3 +46,4 @@ text u =
     ++ line "pad-wrong " (u .tally .«pad_wrong»)
     ++ line "check-flips " (u .tally .«check_flips»)
     ++ line "left-over " (u .left)
+    ++ line "longest-gap " (u .tally .longest)

@@ -7,12 +7,13 @@ static const struct {
 } groups[] = {
     {"rows", rows},             // the bench rows, the worked examples and the outside vectors: what crates/cases/stdin has
     {"hier", hier_cases},       // every data byte and every block
-    {"dap", dap_cases},         // all double errors of two bytes; copies with up to three flips, lengths lawful and not, outputs of any length
+    {"dap", dap_cases},         // all double errors of two bytes; copies with up to three flips, lengths lawful and not; any outputs
     {"bus", bus_cases},         // every state and datum of widths 1 to 6; any width, changes about half of it, states out of range
     {"fill", fill_cases},       // every pattern; buffers about 65,536 bytes; short ones, registers and patterns out of range
     {"feed", feed_cases},       // pieces of a pattern with a few flips, from any state, in range and not; pieces about 65,536 bytes
-    {"tally", tally_cases},     // states about each limit; lists of unequal lengths, bytes that are none, no room, and all of these at once
-    {"lane", lane_cases},       // the same states; pieces of frames with up to three flips, and such about 65,536 bytes
+    {"tally", tally_cases},     // states about each limit; lists of unequal lengths, bytes that are none, no room, and all of these at
+                                // once; every order of up to eight accepted and refused frames
+    {"lane", lane_cases},       // the same states and orders; pieces of frames with up to three flips, and such about 65,536 bytes
     {"capture", capture_cases}, // files and trailers about each limit, every byte of a small one, lists and outputs of any length
     {"salvage", salvage_cases}, // bent frames, every pattern of two flips, still lines; files that are refused; lists of any length
 };

@@ -24,6 +24,9 @@ uint64_t one_of(const uint64_t *list, uint64_t n);
 uint64_t some_pattern(void); // mostly one that there is
 
 void rows(void);
+void tally_rows(void); // of rows; so are the next two
+void capture_rows(void);
+void salvage_rows(void);
 void hier_cases(void);
 void dap_cases(void);
 void bus_cases(void);

@@ -10,7 +10,8 @@ use Rattle.paper.specs.Numbers.{mostCounted}
 use Rattle.tally.specs.Ranges.{framesIn, inRange}
 use Rattle.tally.specs.Calls.{Adds}
 use Rattle.tally.specs.Parts.{Alike}
-use Rattle.tally.proofs.Answers.{few-frames, few-pads, few-checks, refuse-unequal, refuse-range, refuse-past, accept}
+use Rattle.tally.proofs.Ranges.{few-frames, few-pads, few-checks, short-current, short-longest}
+use Rattle.tally.proofs.Answers.{refuse-unequal, refuse-range, refuse-past, accept}
 use Rattle.tally.proofs.Tally.add_list.Statement.{statement}
 use Rattle.tally.proofs.Tally.add_list.Tie as tie
 
@@ -69,8 +70,10 @@ folded-requires c κs =
     let s = d .before .before .before .before .before .before .before .args .self in
     let p = few-pads s (inside d) in
     let q = few-checks s (inside d) in
+    let l = short-current s (inside d) in
+    let m = short-longest s (inside d) in
     let f = fits c in
-    (alike (d .before .before), record { frames = omega arith; pads = omega arith; checks = omega arith })
+    (alike (d .before .before), record { frames = omega arith; pads = omega arith; checks = omega arith; stretch = omega arith })
 
 limited-requires : tie.Need-limited-requires
 limited-requires c κs = search needs

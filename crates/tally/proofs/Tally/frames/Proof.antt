@@ -8,7 +8,7 @@ use Rattle.paper.specs.Numbers.{outside, unless}
 use Rattle.paper.specs.Answer.{owed}
 use Rattle.tally.specs.Ranges.{inRange}
 use Rattle.tally.specs.Calls.{Sums}
-use Rattle.tally.proofs.Answers.{few-frames}
+use Rattle.tally.proofs.Ranges.{few-frames}
 use Rattle.tally.proofs.Tally.frames.Statement.{statement}
 use Rattle.tally.proofs.Tally.frames.Tie as tie
 

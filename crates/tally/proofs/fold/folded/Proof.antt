@@ -62,7 +62,12 @@ known-here c = sym (c .before .known .ensures) ∙ not-false _ (c .if1 .left)
 step-requires : tie.Need-step-requires Inv-loop μ-loop
 step-requires c κs =
     let f = c .before .before .before .before .before .before .loop .inv .spare in (
-      record { frames = omega (arith, f .frames); pads = omega (arith, f .pads); checks = omega (arith, f .checks) },
+      record {
+        frames = omega (arith, f .frames);
+        pads = omega (arith, f .pads);
+        checks = omega (arith, f .checks);
+        stretch = omega (arith, f .stretch);
+      },
       known-here c,
     )
 

@@ -19,7 +19,7 @@ folded-requires c κs =
     let s = c .before .before .before .before in
     let h = s .good .0 .1 in
     let n = length (s .args .verdicts .now) in
-    let f : Spare fresh n = record { frames = omega arith; pads = omega arith; checks = omega arith } in
+    let f : Spare fresh n = record { frames = omega arith; pads = omega arith; checks = omega arith; stretch = omega arith } in
     (s .pre, subst (λ (t : Tally). Spare t n) (sym (c .fresh .ensures)) f)
 
 enum-told : tie.Need-enum-told

@@ -1,46 +1,20 @@
 -- Each number of the result is that of `step`, by what is known of a clean frame, one with flips, and a refused one.
-use mathlib.Core.Path.{_≡_, refl, sym, ap, _∙_}
-use mathlib.Core.Bool.{Bool, true, _&&_}
-use Prim.Native.Nat.{ℕ, _+_, _≤_, _<_}
-use native.Mathlib.Nat.{add-zero}
+use mathlib.Core.Path.{_≡_, refl, ap, _∙_}
+use mathlib.Core.Bool.{true}
+use Prim.Native.Nat.{ℕ, _≤_}
 use native.Mathlib.Omega.{arith}
 use borrow.Author.Needs.{needs}
-use borrow.Author.Tests.{eq-eqb, ne-eqb}
-use lib.Dec.{eqb}
-use Rattle.tally.specs.Told.{Told}
-use Rattle.tally.specs.Ranges.{accepted, isFlag, flipsOf, isKnown}
-use Rattle.tally.specs.Fold.{once, step}
-use Rattle.tally.proofs.Verdicts.{is-accepted, not-accepted, flag-number, flag-few, parts, at-most-two}
+use Rattle.tally.specs.Ranges.{isFlag, flipsOf, isKnown}
+use Rattle.tally.specs.Fold.{step}
+use Rattle.tally.proofs.Verdicts.{flag-few, parts, at-most-two}
 use Rattle.tally.proofs.Steps.{tally-eq}
+use Rattle.tally.proofs.Numbers.{one, here, absent, added, flagged, ended, passed, unflagged}
 use Rattle.tally.proofs.fold.step.Statement.{statement}
 use Rattle.tally.proofs.fold.step.Tie as tie
-
-here : (k v n : ℕ) → v ≡ k → n + 1 ≡ n + once (eqb v k)
-here k v n e = ap (λ (b : Bool). n + once b) (sym (eq-eqb v k e))
-
-absent : (k v n : ℕ) → (v ≡ k → ⊥) → n ≡ n + once (eqb v k)
-absent k v n e = sym (add-zero n) ∙ ap (λ (b : Bool). n + once b) (sym (ne-eqb v k e))
-
-added : (n : ℕ) {a b : ℕ} → a ≡ b → n + a ≡ n + b
-added n e = ap (λ (m : ℕ). n + m) e
-
-abbrev one : ℕ → ℕ → ℕ → Told
-one v p k = record { verdict = v; pad = p; checks = k }
 
 -- a known flag
 flag : (v p k : ℕ) → isKnown (one v p k) ≡ true → isFlag p ≡ true
 flag v p k e = parts (one v p k) e .1
-
--- the pad flag of an accepted frame counts itself, that of a refused one nothing
-flagged : (n v p : ℕ) → v ≤ 2 → isFlag p ≡ true → n + p ≡ n + once (accepted v && eqb p 1)
-flagged n v p h e = added n (flag-number p e ∙ ap (λ (b : Bool). once (b && eqb p 1)) (sym (is-accepted v h)))
-
-unflagged : (n v p : ℕ) → 2 < v → n ≡ n + once (accepted v && eqb p 1)
-unflagged n v p h = sym (add-zero n) ∙ ap (λ (b : Bool). n + once (b && eqb p 1)) (sym (not-accepted v h))
-
--- a clean or refused frame has no check flips
-uncounted : (n v p k : ℕ) → isKnown (one v p k) ≡ true → flipsOf v ≡ 0 → n ≡ n + k
-uncounted n v p k e z = omega (arith, parts (one v p k) e .2, z)
 
 add-t6 : tie.Need-add-t6
 add-t6 c = search needs
@@ -61,7 +35,8 @@ returns c =
     tally-eq (here 0 v (t .clean) e) (absent 1 v (t .one) (λ h. omega arith)) (absent 2 v (t .two) (λ h. omega arith))
     (absent 13 v (t .«no_word») (λ h. omega arith)) (absent 14 v (t .«run_broken») (λ h. omega arith))
     (flagged (t .«pad_wrong») v (a .pad) (omega arith) (flag v (a .pad) (a .checks) (s .pre .1)))
-    (uncounted (t .«check_flips») v (a .pad) (a .checks) (s .pre .1) (ap flipsOf e))
+    (omega (arith, parts (one v (a .pad) (a .checks)) (s .pre .1) .2, ap flipsOf e)) (ended v (t .current) (omega arith))
+    (passed v (t .current) (t .longest) (omega arith))
 
 same-requires : tie.Need-same-requires
 same-requires c κs = search needs
@@ -94,37 +69,21 @@ returns-2 c =
     let a = s .args in
     let v = a .verdict in
     let t = a .t in
+    let h : v ≤ 2 = omega (arith, f .if2 .taken) in
     tally-eq (absent 0 v (t .clean) (f .before .if1 .left)) (added (t .one) (d .before .before .same .ensures .0))
-    (added (t .two) (d .same2 .ensures .0)) (absent 13 v (t .«no_word») (λ e. omega (arith, f .if2 .taken))) (absent 14 v (t .«run_broken») (λ e. omega (arith, f .if2 .taken)))
-    (flagged (t .«pad_wrong») v (a .pad) (omega (arith, f .if2 .taken)) (flag v (a .pad) (a .checks) (s .pre .1)))
-    refl
+    (added (t .two) (d .same2 .ensures .0)) (absent 13 v (t .«no_word») (λ e. omega (arith, h))) (absent 14 v (t .«run_broken») (λ e. omega (arith, h)))
+    (flagged (t .«pad_wrong») v (a .pad) h (flag v (a .pad) (a .checks) (s .pre .1))) refl (ended v (t .current) h)
+    (passed v (t .current) (t .longest) h)
 
-same-requires-3 : tie.Need-same-requires-3
-same-requires-3 c κs = search needs
-
-add-t18 : tie.Need-add-t18
-add-t18 c = search needs
-
-same-requires-4 : tie.Need-same-requires-4
-same-requires-4 c κs = search needs
-
-add-t20 : tie.Need-add-t20
-add-t20 c = search needs
+step-refused-requires : tie.Need-step-refused-requires
+step-refused-requires c κs = (c .before .before .pre .0, c .if2 .left)
 
 returns-3 : tie.Need-returns-3
-unfolding step
 returns-3 c =
-    let d = c .before in
-    let f = d .before .before .before in
+    let f = c .before in
     let s = f .before .before in
     let a = s .args in
-    let v = a .verdict in
-    let t = a .t in
-    let h : 2 < v = f .if2 .left in
-    let z : flipsOf v ≡ 0 = simp (not-accepted v h) in
-    tally-eq (absent 0 v (t .clean) (f .before .if1 .left)) (absent 1 v (t .one) (λ e. omega arith)) (absent 2 v (t .two) (λ e. omega arith))
-    (added (t .«no_word») (d .before .before .same3 .ensures .0)) (added (t .«run_broken») (d .same4 .ensures .0))
-    (unflagged (t .«pad_wrong») v (a .pad) h) (uncounted (t .«check_flips») v (a .pad) (a .checks) (s .pre .1) z)
+    c .step-refused .ensures ∙ unflagged (a .t) (a .verdict) (a .pad) (a .checks) (f .if2 .left) (s .pre .1)
 
 pub step-spec : {M : Type 1} → statement M
 step-spec =
@@ -140,8 +99,5 @@ step-spec =
     add-t14
     add-t16
     returns-2
-    same-requires-3
-    add-t18
-    same-requires-4
-    add-t20
+    step-refused-requires
     returns-3)

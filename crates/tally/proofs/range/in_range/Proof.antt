@@ -1,13 +1,13 @@
 -- One count past the limit takes the sum past it; one test that is failed fails the whole.
-use mathlib.Core.Path.{_≡_}
-use mathlib.Core.Bool.{false, and-false}
+use mathlib.Core.Path.{_≡_, _∙_}
+use mathlib.Core.Bool.{false, _&&_, and-false}
 use Prim.Native.Nat.{_≤_, _<_}
 use native.Mathlib.Omega.{arith}
 use borrow.Author.Needs.{needs}
 use borrow.Author.Tests.{le-leb, lt-leb}
 use lib.Dec.{leb}
 use Rattle.paper.specs.Numbers.{mostCounted}
-use Rattle.tally.specs.Ranges.{acceptedIn, framesIn, flipsIn, inRange}
+use Rattle.tally.specs.Ranges.{acceptedIn, refusedCount, framesIn, flipsIn, inRange}
 use Rattle.tally.specs.declared.Tally.{Tally}
 use Rattle.tally.proofs.range.in_range.Statement.{statement}
 use Rattle.tally.proofs.range.in_range.Tie as tie
@@ -22,9 +22,18 @@ module _ (t : Tally) where
   past-checks : flipsIn t < t .«check_flips» → false ≡ inRange t
   past-checks h = simp (lt-leb (t .«check_flips») (flipsIn t) h, and-false)
 
-  within : framesIn t ≤ mostCounted → t .«pad_wrong» ≤ acceptedIn t → t .«check_flips» ≤ flipsIn t
-      → leb (t .«check_flips») mostCounted ≡ inRange t
-  within f p c = simp (le-leb (framesIn t) mostCounted f, le-leb (t .«pad_wrong») (acceptedIn t) p, le-leb (t .«check_flips») (flipsIn t) c)
+  past-total : mostCounted < t .«check_flips» → false ≡ inRange t
+  past-total h = simp (lt-leb (t .«check_flips») mostCounted h, and-false)
+
+  within : framesIn t ≤ mostCounted → t .«pad_wrong» ≤ acceptedIn t → t .«check_flips» ≤ flipsIn t → t .«check_flips» ≤ mostCounted
+      → leb (t .current) (t .longest) && leb (t .longest) (refusedCount t) ≡ inRange t
+  within f p c m =
+      simp (
+        le-leb (framesIn t) mostCounted f,
+        le-leb (t .«pad_wrong») (acceptedIn t) p,
+        le-leb (t .«check_flips») (flipsIn t) c,
+        le-leb (t .«check_flips») mostCounted m,
+      )
 
 returns : tie.Need-returns
 returns c = past (c .before .before .args .t) (omega arith)
@@ -60,7 +69,10 @@ returns-6 c =
     past (e .before .before .before .before .before .args .t) (omega arith)
 
 returns-7 : tie.Need-returns-7
-returns-7 c = past-pads _ (c .if7 .taken)
+returns-7 c =
+    let d = c .before .before .before .before .before .before .before in
+    let e = d .before .before .before .before .before .before .before .before .before .before in
+    past-pads (e .args .t) (c .if7 .taken)
 
 mul-if8 : tie.Need-mul-if8
 mul-if8 c = search needs
@@ -74,11 +86,26 @@ returns-8 c =
     let e = d .before .before .before .before .before .before .before .before .before .before in
     past-checks (e .before .args .t) (omega arith)
 
+abbrev tally : tie.Else8 → Tally
+tally c =
+    let d = c .before .before .before .before .before .before .before .before .before .before .before in
+    d .before .before .before .before .before .before .before .before .before .before .args .t
+
 returns-9 : tie.Need-returns-9
-returns-9 c =
+returns-9 c = past-total (tally (c .before .before)) (omega arith)
+
+summed : (c : tie.Else8) → framesIn (tally c) ≤ mostCounted
+summed c = c .before .before .before .before .before .before .if6 .left
+
+stretches-in-range-requires : tie.Need-stretches-in-range-requires
+stretches-in-range-requires c κs = summed (c .before .before)
+
+returns-10 : tie.Need-returns-10
+returns-10 c =
     let d = c .before in
-    let e = d .before .before .before .before in
-    within _ (e .before .before .if6 .left) (e .if7 .left) (d .if8 .left)
+    let e = d .before .before in
+    c .stretches-in-range .ensures
+    ∙ within (tally e) (summed e) (e .before .before .before .before .if7 .left) (e .if8 .left) (d .if9 .left)
 
 pub in-range-spec : {M : Type 1} → statement M
 in-range-spec =
@@ -98,4 +125,6 @@ in-range-spec =
     mul-if8
     add-if8
     returns-8
-    returns-9)
+    returns-9
+    stretches-in-range-requires
+    returns-10)

@@ -75,31 +75,36 @@ current-fresh xs = current-on fresh xs ∙ by (allRefused xs) (current-all xs)
     by true e = omega (arith, e refl)
     by false e = refl
 
--- a stretch with one place more in front of it
+-- a stretch of n with something or nothing behind it, one that xs begins with, one that it ends with
+abbrev Some : List Told → ℕ → Type 0
+Some xs n = (ys zs : List Told) × Stretch xs ys zs × (length ys ≡ n)
+
+abbrev First : List Told → ℕ → Type 0
+First xs n = (ys zs : List Told) × (xs ≡ ys ++ zs) × (allRefused ys ≡ true) × (length ys ≡ n)
+
+abbrev Last : List Told → ℕ → Type 0
+Last xs n = (ys : List Told) × Stretch xs ys [] × (length ys ≡ n)
+
+-- one place more in front
 behind : (x : Told) {xs ys zs : List Told} → Stretch xs ys zs → Stretch (x ∷ xs) ys zs
 behind x s = record { before = x ∷ s .before; whole = ap (λ (l : List Told). x ∷ l) (s .whole); unbroken = s .unbroken }
 
--- the one that a list begins with
-begins : (xs : List Told) → (ys zs : List Told) × (xs ≡ ys ++ zs) × (allRefused ys ≡ true) × (length ys ≡ leading xs)
+begins : (xs : List Told) → First xs (leading xs)
 unfolding allRefused leading
 begins [] = ([], [], refl, refl, refl)
 begins (x ∷ xs) = by (accepted (x .verdict)) refl (begins xs)
   where
-    by : (b : Bool) → accepted (x .verdict) ≡ b
-        → (ys zs : List Told) × (xs ≡ ys ++ zs) × (allRefused ys ≡ true) × (length ys ≡ leading xs)
-        → (ys zs : List Told) × (x ∷ xs ≡ ys ++ zs) × (allRefused ys ≡ true) × (length ys ≡ cond b 0 (suc (leading xs)))
+    by : (b : Bool) → accepted (x .verdict) ≡ b → First xs (leading xs) → First (x ∷ xs) (cond b 0 (suc (leading xs)))
     by true e s = ([], x ∷ xs, refl, refl, refl)
     by false e s = (x ∷ s .0, s .1, ap (λ (l : List Told). x ∷ l) (s .2), simp (e, s .3), ap suc (s .4))
 
-pub some-part : (xs : List Told) → (ys zs : List Told) × Stretch xs ys zs × (length ys ≡ longest xs)
+pub some-part : (xs : List Told) → Some xs (longest xs)
 unfolding allRefused longest
 some-part [] = ([], [], record { before = []; whole = refl; unbroken = refl }, refl)
 some-part (x ∷ xs) = by (leb (longest xs) (leading (x ∷ xs))) refl (begins (x ∷ xs)) (some-part xs)
   where
-    by : (b : Bool) → leb (longest xs) (leading (x ∷ xs)) ≡ b
-        → (ys zs : List Told) × (x ∷ xs ≡ ys ++ zs) × (allRefused ys ≡ true) × (length ys ≡ leading (x ∷ xs))
-        → (ys zs : List Told) × Stretch xs ys zs × (length ys ≡ longest xs)
-        → (ys zs : List Told) × Stretch (x ∷ xs) ys zs × (length ys ≡ max (leading (x ∷ xs)) (longest xs))
+    by : (b : Bool) → leb (longest xs) (leading (x ∷ xs)) ≡ b → First (x ∷ xs) (leading (x ∷ xs)) → Some xs (longest xs)
+        → Some (x ∷ xs) (max (leading (x ∷ xs)) (longest xs))
     by true e s r =
         (s .0, s .1, record { before = []; whole = s .2; unbroken = s .3 }, omega (arith, s .4, leb-true (longest xs) (leading (x ∷ xs)) e))
     by false e s r = (r .0, r .1, behind x (r .2), omega (arith, r .3, leb-false (longest xs) (leading (x ∷ xs)) e))
@@ -121,13 +126,12 @@ none-longer xs ys zs s =
     let m = ys ++ zs in
     omega (arith, ap longest (s .whole), grows (s .before) m, leading-few m, leads ys zs (s .unbroken))
 
-pub some-end : (xs : List Told) → (ys : List Told) × Stretch xs ys [] × (length ys ≡ current xs)
+pub some-end : (xs : List Told) → Last xs (current xs)
 unfolding allRefused current
 some-end [] = ([], record { before = []; whole = refl; unbroken = refl }, refl)
 some-end (x ∷ xs) = by (allRefused (x ∷ xs)) refl (some-end xs)
   where
-    by : (b : Bool) → allRefused (x ∷ xs) ≡ b → (ys : List Told) × Stretch xs ys [] × (length ys ≡ current xs)
-        → (ys : List Told) × Stretch (x ∷ xs) ys [] × (length ys ≡ cond b (length (x ∷ xs)) (current xs))
+    by : (b : Bool) → allRefused (x ∷ xs) ≡ b → Last xs (current xs) → Last (x ∷ xs) (cond b (length (x ∷ xs)) (current xs))
     by true e s = (x ∷ xs, record { before = []; whole = sym (append-nil (x ∷ xs)); unbroken = e }, refl)
     by false e s = (s .0, behind x (s .1), s .2)
 

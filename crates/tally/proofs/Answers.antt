@@ -7,6 +7,7 @@
 -- │ past-new       │ and 11 where not                                              │
 -- │ Taken          │ what an accepting answer tells of the state and of xs         │
 -- │ taken          │ that it does                                                  │
+-- │ accepted-alike │ and that its lists are of one length                          │
 -- │ one-answer …   │ the statements of specs/Claims.antt by these names            │
 -- └────────────────┴───────────────────────────────────────────────────────────────┘
 use mathlib.Core.Path.{_≡_, refl, sym, ap, _∙_, subst}
@@ -52,7 +53,7 @@ module _ (t : Tally) (vs ps cs : List ℕ) where
     abbrev xs : List Told
     xs = told vs ps cs
 
-    in-lists : (a : Answer Tally) → a ≡ owed (refusal t xs) (after t xs) → Adds t vs ps cs a
+    pub in-lists : (a : Answer Tally) → a ≡ owed (refusal t xs) (after t xs) → Adds t vs ps cs a
     unfolding Adds
     in-lists a p = simp (eq-eqb _ _ (e .0), eq-eqb _ _ (e .1)) p
 
@@ -136,6 +137,16 @@ taken t u vs ps cs e =
       total = ltb-false mostCounted (w .«check_flips») (n .1);
       next = z .3;
     }
+
+pub accepted-alike : (t u : Tally) (vs ps cs : List ℕ) → Adds t vs ps cs (gives u) → Alike vs ps cs
+unfolding Adds
+accepted-alike t u vs ps cs e = by (eqb (length vs) (length ps)) (eqb (length vs) (length cs)) refl refl e
+  where
+    by : (a b : Bool) → eqb (length vs) (length ps) ≡ a → eqb (length vs) (length cs) ≡ b
+        → gives u ≡ owed (cond (not (a && b)) unfit (refusal t (told vs ps cs))) (after t (told vs ps cs)) → Alike vs ps cs
+    by true true p q e = (eqb-true _ _ p, eqb-true _ _ q)
+    by true false p q e = absurd (never-both u unfit e)
+    by false b p q e = absurd (never-both u unfit e)
 
 -- every answer is one of an enum's
 held : (a : Answer Tally) → (r : Added) × (answer r ≡ a)

@@ -13,15 +13,13 @@ use Rattle.paper.specs.Answer.{Answer, gives, refused, owed}
 use Rattle.paper.proofs.Answer.{gives-one, never-both}
 use Rattle.tally.specs.Told.{Told}
 use Rattle.tally.specs.Ranges.{known, inRange}
-use Rattle.tally.specs.Counts.{fresh, counts}
 use Rattle.tally.specs.Fold.{after}
 use Rattle.tally.specs.Calls.{overfull, refusal, unequal, Adds}
 use Rattle.tally.specs.Claims.{Call, verdictsIn, flagsIn, checksIn, toldIn, History, none, accepted, declined}
 use Rattle.tally.specs.Claims.{CountsHistory, SomeHistory, OneHistory, ReachesInRange, OutsideIsNew}
-use Rattle.tally.specs.Claims.{SomeUnbroken, NoLonger, SomeAtEnd, NoLongerAtEnd, LongestJoined, CurrentJoined}
+use Rattle.tally.specs.Claims.{SomeUnbroken, NoLonger, SomeAtEnd, NoLongerAtEnd}
 use Rattle.tally.specs.declared.Tally.{Tally}
-use Rattle.tally.proofs.Stretches.{some-part, none-longer, some-end, no-longer-end, current-few}
-use Rattle.tally.proofs.Stretches.{longest-on, current-on, longest-fresh, current-fresh}
+use Rattle.tally.proofs.Stretches.{some-part, none-longer, some-end, no-longer-end}
 use Rattle.tally.proofs.Steps.{in-pieces, from-fresh}
 use Rattle.tally.proofs.Answers.{tests, taken, stays-in-range}
 
@@ -98,14 +96,3 @@ some-at-end cs xs u h =
 
 pub no-longer-at-end : NoLongerAtEnd
 no-longer-at-end cs xs u h ys s = omega (arith, no-longer-end xs ys s, ap (λ (t : Tally). t .current) (counts-history cs xs u h))
-
--- a tally of the first list that is told the second
-told-on : (xs ys : List Told) → after fresh (xs ++ ys) ≡ after (counts xs) ys
-told-on xs ys = in-pieces fresh xs ys ∙ ap (λ (t : Tally). after t ys) (from-fresh xs)
-
-pub longest-joined : LongestJoined
-longest-joined xs ys =
-    sym (longest-fresh (xs ++ ys)) ∙ ap (λ (t : Tally). t .longest) (told-on xs ys) ∙ longest-on (counts xs) ys (current-few xs)
-
-pub current-joined : CurrentJoined
-current-joined xs ys = sym (current-fresh (xs ++ ys)) ∙ ap (λ (t : Tally). t .current) (told-on xs ys) ∙ current-on (counts xs) ys

@@ -7,3 +7,4 @@ pub mod Numbers
 pub mod Scan
 pub mod Answers
 pub mod Histories
+pub mod Joined

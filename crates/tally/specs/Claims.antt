@@ -22,6 +22,8 @@
 -- │ SomeHistory    │ any calls are a history, from any tally                        │
 -- │ OneHistory     │ and only one                                                   │
 -- │ InPieces       │ lists added one after the other are their joining              │
+-- │ AddsJoined     │ so lists that are accepted one after the other are accepted    │
+-- │                │ joined, with the same next tally                               │
 -- │ LongestJoined  │ the longest stretch of a joining is one of the two lists or    │
 -- │                │ lies across the seam                                           │
 -- │ CurrentJoined  │ the current one begins in the second list, or ahead of all of  │
@@ -120,6 +122,11 @@ OneHistory =
 
 abbrev pub InPieces : Type 0
 InPieces = (t : Tally) (xs ys : List Told) → after t (xs ++ ys) ≡ after (after t xs) ys
+
+abbrev pub AddsJoined : Type 0
+AddsJoined =
+    (t u w : Tally) (vs ps cs vs′ ps′ cs′ : List ℕ) → Adds t vs ps cs (gives u) → Adds u vs′ ps′ cs′ (gives w)
+    → Adds t (vs ++ vs′) (ps ++ ps′) (cs ++ cs′) (gives w)
 
 abbrev pub LongestJoined : Type 0
 LongestJoined = (xs ys : List Told) → longest (xs ++ ys) ≡ max (longest xs) (max (current xs + leading ys) (longest ys))

@@ -3,6 +3,8 @@
 -- │ worth n ds    │ the number that digits in ASCII are, after those of n        │
 -- │ three         │ the totals of the paper's three frames                       │
 -- │ PapersListing │ the ten lines that the paper prints                          │
+-- │ distinct      │ totals of which no two numbers are the same                  │
+-- │ EachOnItsLine │ the ten lines of these: each number stands under its name    │
 -- │ DigitsBack    │ the digits of a 64-bit number are worth that number          │
 -- │ hexValue d    │ the number that a hexadecimal digit in ASCII is              │
 -- │ hexWorth ds   │ the number that such digits are                              │
@@ -46,6 +48,30 @@ abbrev pub PapersListing : Type 0
 PapersListing =
     text three
     ≡ ascii "frames 3\nclean 1\none 0\ntwo 1\nno-word 1\nrun-broken 0\npad-wrong 0\ncheck-flips 1\nleft-over 0\nlongest-gap 1\n"
+
+abbrev pub distinct : Totals
+distinct =
+    record {
+      tally =
+          record {
+            clean = 1;
+            one = 2;
+            two = 3;
+            «no_word» = 4;
+            «run_broken» = 5;
+            «pad_wrong» = 6;
+            «check_flips» = 7;
+            current = 0;
+            longest = 9;
+          };
+      frames = 15;
+      left = 8;
+    }
+
+abbrev pub EachOnItsLine : Type 0
+EachOnItsLine =
+    text distinct
+    ≡ ascii "frames 15\nclean 1\none 2\ntwo 3\nno-word 4\nrun-broken 5\npad-wrong 6\ncheck-flips 7\nleft-over 8\nlongest-gap 9\n"
 
 abbrev pub DigitsBack : Type 0
 DigitsBack = (n : ℕ) → n < 2 ^ 64 → worth 0 (decimal n) ≡ n

@@ -4,7 +4,6 @@
 -- │ rem-xor        │ the remainder of a sum is the sum of the remainders        │
 -- │ rem-small      │ 12 coefficients are their own remainder                    │
 -- │ rem-more       │ leading zeros do not count                                 │
--- │ rem-shifted    │ g moved on leaves nothing                                  │
 -- │ rem-low        │ coefficients past the k low ones do not count              │
 -- │ times-lt       │ a multiple of g by j coefficients has j + 12               │
 -- │ rem-times      │ a multiple of g leaves nothing                             │
@@ -15,13 +14,13 @@
 -- │ is-divisible   │ what leaves 0 is divisible                                 │
 -- └────────────────┴────────────────────────────────────────────────────────────┘
 use mathlib.Core.Path.{_≡_, refl, sym, ap, ap₂, _∙_, subst}
-use Prim.Native.Nat.{ℕ, zero, suc, _+_, _*_, _/_, _%_, _-_, _^_, _<_, _≤_}
-use native.Mathlib.Nat.{pow-suc, suc-add, div-add-mod', add-zero, mul-div-cancel, mul-mod-left, lt-of-lt-of-le, zero-lt-suc, zero-add, mul-assoc, add-comm}
+use Prim.Native.Nat.{ℕ, zero, suc, _+_, _*_, _/_, _%_, _^_, _<_}
+use native.Mathlib.Nat.{pow-suc, suc-add, div-add-mod', add-zero, mul-div-cancel, mul-mod-left, lt-of-lt-of-le, zero-lt-suc}
 use native.Mathlib.Numerals.{add-one}
 use native.Mathlib.Omega.{arith}
 use lib.Arith.{lt-one, digits-div, digits-mod}
 use lib.Dec.{lit<}
-use lib.Pow.{pow-mono, shl-lt, field, mod-mod-pow}
+use lib.Pow.{pow-mono, field, mod-mod-pow}
 use lib.Bits.{bitXor, xor-shr, xor-zero-r, xor-self, xor-comm, xor-lt}
 use Rattle.laws.proofs.Xor.{bit-ind, bit-lt, xor-half, xor-odd, xor-digit, xor-four, bit-times}
 use Rattle.poly.specs.Poly.{g, times, Divisible, reduce, rem}
@@ -92,28 +91,6 @@ rem-g (suc j) =
     ap (λ (x : ℕ). rem (suc x) g) (suc-add j 12)
     ∙ rem-more (suc (j + 12)) g (lt-of-lt-of-le {m = 2 ^ 13} (lit< tt) (pow-mono {i = 13} (omega arith)))
     ∙ rem-g j
-
-pub rem-longer : (k n v : ℕ) → v < 2 ^ k → rem k v ≡ 0 → rem (n + k) v ≡ 0
-rem-longer k zero v h e = ap (λ (x : ℕ). rem x v) (zero-add k) ∙ e
-rem-longer k (suc n) v h e =
-    ap (λ (x : ℕ). rem x v) (suc-add n k)
-    ∙ rem-more (n + k) v (lt-of-lt-of-le h (pow-mono (omega arith)))
-    ∙ rem-longer k n v h e
-
--- g moved on by j positions leaves nothing
-g-shifted : (j : ℕ) → rem (j + 13) (g * 2 ^ j) ≡ 0
-unfolding rem
-g-shifted zero = refl
-g-shifted (suc j) =
-    ap₂ (λ (x y : ℕ). rem x y) (suc-add j 13) (ap (λ (x : ℕ). g * x) (pow-suc 2 j) ∙ sym (mul-assoc g (2 ^ j) 2))
-    ∙ ap reduce
-    (ap₂ (λ (x y : ℕ). rem (j + 13) x * 2 + y) (mul-div-cancel (g * 2 ^ j) (zero-lt-suc 1)) (mul-mod-left (g * 2 ^ j) 2)
-    ∙ ap (λ (x : ℕ). x * 2 + 0) (g-shifted j))
-
-pub rem-shifted : (j n : ℕ) → j + 13 ≤ n → rem n (g * 2 ^ j) ≡ 0
-rem-shifted j n h =
-    ap (λ (x : ℕ). rem x (g * 2 ^ j)) (let e : n ≡ (n - (j + 13)) + (j + 13) = omega arith in e)
-    ∙ rem-longer (j + 13) (n - (j + 13)) (g * 2 ^ j) (subst (λ (x : ℕ). g * 2 ^ j < 2 ^ x) (add-comm 13 j) (shl-lt 13 j (lit< tt))) (g-shifted j)
 
 -- coefficients past the k low ones do not count
 pub rem-low : (k v : ℕ) → rem k (v % 2 ^ k) ≡ rem k v

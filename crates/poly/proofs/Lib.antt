@@ -1,3 +1,3 @@
 pub mod Division
 pub mod Factors
-pub mod Turns
+pub mod Steps

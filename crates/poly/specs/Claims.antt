@@ -6,11 +6,16 @@
 -- │ RemXor         │ the remainder of a sum is the sum of the remainders              │
 -- │ LeavesNothing  │ a multiple of g leaves 0                                         │
 -- │ IsDivisible    │ and what leaves 0 is one                                         │
+-- │ LeadingPart    │ after j steps by hand, with m to come, the m last coefficients   │
+-- │                │ are as they were, and the others have left their remainder       │
+-- │ LeadingGone    │ and the leading j are 0                                          │
+-- │ LeavesRemainder│ after 51 steps the remainder is left                             │
 -- └────────────────┴──────────────────────────────────────────────────────────────────┘
 use mathlib.Core.Path.{_≡_}
-use Prim.Native.Nat.{ℕ, _+_, _^_, _<_}
+use Prim.Native.Nat.{ℕ, _+_, _-_, _*_, _/_, _%_, _^_, _<_, _≤_}
 use lib.Bits.{bitXor}
-use Rattle.poly.specs.Poly.{g, times, Divisible, rem}
+use Rattle.poly.specs.Poly.{wordBits, g, times, Divisible, rem}
+use Rattle.poly.specs.Steps.{leftAfter}
 
 abbrev pub Factors : Type 0
 Factors = times 7 0b1000011 0b1010111 ≡ g
@@ -29,3 +34,12 @@ LeavesNothing = (j v : ℕ) → Divisible j v → rem (j + 12) v ≡ 0
 
 abbrev pub IsDivisible : Type 0
 IsDivisible = (j v : ℕ) → v < 2 ^ (j + 12) → rem (j + 12) v ≡ 0 → Divisible j v
+
+abbrev pub LeadingPart : Type 0
+LeadingPart = (v j m : ℕ) → v < 2 ^ wordBits → j + m ≡ 51 → leftAfter v j ≡ rem wordBits (v / 2 ^ m) * 2 ^ m + v % 2 ^ m
+
+abbrev pub LeadingGone : Type 0
+LeadingGone = (v j : ℕ) → v < 2 ^ wordBits → j ≤ 51 → leftAfter v j < 2 ^ (wordBits - j)
+
+abbrev pub LeavesRemainder : Type 0
+LeavesRemainder = (v : ℕ) → v < 2 ^ wordBits → leftAfter v 51 ≡ rem wordBits v

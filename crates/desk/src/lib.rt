@@ -1,11 +1,14 @@
 // The programs for users. An entry does the whole of its program's work and answers the status.
 ghost use Rattle.desk.specs.Calls.{Status};
 
+mod asking;
 mod counting;
+mod dividing;
 mod listing;
 mod outcome;
 mod salvaging;
 mod saying;
+mod steps;
 
 // All of the work is done.
 const DONE: i32 = 0;
@@ -38,4 +41,15 @@ pub extern "C" fn lks_salvage(one: i32) -> i32
         return salvaging::usage();
     }
     salvaging::salvage_of_files(one)
+}
+
+// division: the long division that gives the check bits of the data word on standard input, step by step.
+#[no_mangle]
+pub extern "C" fn lks_division() -> i32
+    ensures { λ r. ⌜ Status r ⌝ }
+{
+    if os::arg_count() > 1 {
+        return dividing::usage();
+    }
+    dividing::division_of_input()
 }

@@ -6,11 +6,11 @@ use crate::SAID;
 use crate::outcome;
 use crate::outcome::Out;
 use crate::saying::cannot;
+use crate::saying::refusal;
 use crate::saying::say;
 use crate::saying::show;
 use capture::Labelled;
 use input::Input;
-use libc::STDERR_FILENO;
 use salvage::Counts;
 use salvage::Salvaged;
 
@@ -23,9 +23,7 @@ pub(crate) fn usage() -> i32
 fn refused_with(n: u8) -> i32
     ensures { λ r. ⌜ Said r ⌝ }
 {
-    io::write_all(STDERR_FILENO, b"salvage: the capture is refused: ");
-    io::print_decimal(STDERR_FILENO, n as u64);
-    say(b"\n")
+    refusal(b"salvage: the capture is refused: ", n)
 }
 
 // How many frames the salvaged capture has.

@@ -19,6 +19,15 @@ pub(crate) fn say(line: &[u8]) -> i32
     SAID
 }
 
+// A line on standard error: the paper's number of a refusal, after what is refused.
+pub(crate) fn refusal(this: &[u8], n: u8) -> i32
+    ensures { λ r. ⌜ Said r ⌝ }
+{
+    io::write_all(STDERR_FILENO, this);
+    io::print_decimal(STDERR_FILENO, n as u64);
+    say(b"\n")
+}
+
 // A byte as it is shown: a control character, such as a line end, is a question mark.
 fn shown(b: u8) -> u8 {
     if b < b' ' { b'?' } else { b }

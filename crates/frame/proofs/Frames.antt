@@ -6,12 +6,14 @@
 -- │ some-frame    │ each data word has a frame                                     │
 -- │ one-frame     │ and only one                                                   │
 -- │ frame-high    │ which is at least 2^47                                         │
+-- │ check-bits    │ its check bits are what the other positions leave              │
 -- └───────────────┴────────────────────────────────────────────────────────────────┘
 use mathlib.Core.Path.{_≡_, refl, sym, ap, ap₂, _∙_, subst}
 use Prim.Native.Nat.{ℕ, _+_, _-_, _*_, _/_, _%_, _^_, _<_, _≤_}
 use native.Mathlib.Decide.{decLe}
-use native.Mathlib.Nat.{div-one, div-add-mod'}
+use native.Mathlib.Nat.{div-one, div-add-mod', mod-lt}
 use native.Mathlib.Omega.{arith}
+use lib.Pow.{pow-pos, split}
 use lib.Bits.{bitXor, xor-shifted, xor-self, xor-shr}
 use Rattle.laws.proofs.Xor.{xor-zero}
 use Rattle.poly.specs.Poly.{rem}
@@ -19,7 +21,7 @@ use Rattle.poly.proofs.Division.{rem-xor, rem-small, rem-lt, leaves-nothing, is
 use Rattle.bch.specs.Code.{CodeWord, position}
 use Rattle.bch.proofs.Nearest.{code-lt}
 use Rattle.frame.specs.Word.{wordOf, padOf, dataOf, Lawful, FrameOf, padded}
-use Rattle.frame.specs.Claims.{SomeFrame, OneFrame, FrameHigh}
+use Rattle.frame.specs.Claims.{SomeFrame, OneFrame, FrameHigh, CheckBits}
 use Rattle.frame.proofs.Fields.{data-laid, runs-laid, top, top-lt, same-top}
 
 abbrev pub sent : ℕ → ℕ
@@ -101,6 +103,18 @@ one-frame d f f′ m m′ =
     let e : wordOf f ≡ wordOf f′ = one-lawful (wordOf f) (wordOf f′) (m .lawful) (m′ .lawful) (m .carries ∙ sym (m′ .carries)) in
     let p : padOf f ≡ padOf f′ = m .pad ∙ ap (λ (w : ℕ). 1 - position w 62) e ∙ sym (m′ .pad) in
     sym (div-add-mod' f 2) ∙ ap₂ (λ (i j : ℕ). i * 2 + j) e p ∙ div-add-mod' f′ 2
+
+pub check-bits : CheckBits
+check-bits d f m =
+    let w : ℕ = wordOf f in
+    let t : ℕ = w / 2 ^ 12 * 2 ^ 12 in
+    let c : ℕ = w % 2 ^ 12 in
+    let l : c < 4096 = mod-lt w (pow-pos 12) in
+    xor-zero (rem 63 t) c
+    (ap (bitXor (rem 63 t)) (sym (rem-small 63 c (omega arith) l))
+    ∙ sym (rem-xor 63 t c)
+    ∙ ap (rem 63) (xor-shifted (w / 2 ^ 12) 12 c l ∙ split w 12)
+    ∙ leaves-nothing 51 w (m .lawful .code))
 
 pub frame-high : FrameHigh
 frame-high d f m = by (decLe (2 ^ 47) f)

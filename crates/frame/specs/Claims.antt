@@ -3,6 +3,8 @@
 -- │ SomeFrame  │ each data word has a frame                                      │
 -- │ OneFrame   │ and only one                                                    │
 -- │ FrameHigh  │ as a number it is at least 2^47                                 │
+-- │ CheckBits  │ its check bits are what the other positions of its word leave   │
+-- │            │ by long division                                                │
 -- │ RunBound   │ lawful frames end to end have no run longer than `longestRun`   │
 -- │ RunReached │ and some have one as long                                       │
 -- │ LastBitRun │ the last bit of a line is in a run                              │
@@ -11,10 +13,11 @@
 -- └────────────┴─────────────────────────────────────────────────────────────────┘
 use mathlib.Core.Path.{_≡_}
 use mathlib.Core.List.{List}
-use Prim.Native.Nat.{ℕ, _-_, _*_, _^_, _<_, _≤_}
+use Prim.Native.Nat.{ℕ, _-_, _*_, _/_, _%_, _^_, _<_, _≤_}
 use lib.Bits.{bitXor}
 use lib.ListN.{length}
-use Rattle.frame.specs.Word.{dataEnd, RunsRight, FrameOf}
+use Rattle.poly.specs.Poly.{wordBits, rem}
+use Rattle.frame.specs.Word.{dataEnd, wordOf, RunsRight, FrameOf}
 use Rattle.frame.specs.Sums.{runSums, allRight, sums}
 use Rattle.frame.specs.Line.{AllLawful, Run, longestRun}
 
@@ -26,6 +29,9 @@ OneFrame = (d f f′ : ℕ) → FrameOf d f → FrameOf d f′ → f ≡ f′
 
 abbrev pub FrameHigh : Type 0
 FrameHigh = (d f : ℕ) → FrameOf d f → 2 ^ 47 ≤ f
+
+abbrev pub CheckBits : Type 0
+CheckBits = (d f : ℕ) → FrameOf d f → rem wordBits (wordOf f / 2 ^ 12 * 2 ^ 12) ≡ wordOf f % 2 ^ 12
 
 abbrev pub RunBound : Type 0
 RunBound = (fs : List ℕ) → AllLawful fs → (s n : ℕ) → Run fs s n → n ≤ longestRun

@@ -3,8 +3,8 @@
 -- │ leading-part     │ the leading coefficients leave their remainder               │
 -- │ leading-gone     │ the leading ones are 0                                       │
 -- │ leaves-remainder │ after 51 steps the remainder is left                         │
--- │ Moved v j b      │ b is what is left of v after j steps, j positions on         │
--- │ moved-lt         │ it has 63 coefficients                                       │
+-- │ Moved v j b      │ b is what is left of v after j steps, j + 1 positions on     │
+-- │ moved-lt         │ it has 64 coefficients                                       │
 -- │ turn-one         │ a turn of the loop where the leading coefficient is 1        │
 -- │ turn-zero        │ and where it is 0                                            │
 -- └──────────────────┴──────────────────────────────────────────────────────────────┘
@@ -88,13 +88,13 @@ leaves-remainder v h =
     ∙ mul-one (rem 63 v)
 
 abbrev pub Moved : ℕ → ℕ → ℕ → Type 0
-Moved v j b = b ≡ leftAfter v j * 2 ^ j
+Moved v j b = b ≡ leftAfter v j * 2 ^ (j + 1)
 
-pub moved-lt : (v j b : ℕ) → v < 2 ^ 63 → j ≤ 51 → Moved v j b → b < 2 ^ 63
+pub moved-lt : (v j b : ℕ) → v < 2 ^ 63 → j ≤ 51 → Moved v j b → b < 2 ^ 64
 moved-lt v j b h k e =
-    subst (λ (x : ℕ). x < 2 ^ 63) (sym e)
-    (subst (λ (n : ℕ). leftAfter v j * 2 ^ j < 2 ^ n) (let f : 63 - j + j ≡ 63 = omega arith in f)
-    (shl-lt (63 - j) j (leading-gone v j h k)))
+    subst (λ (x : ℕ). x < 2 ^ 64) (sym e)
+    (subst (λ (n : ℕ). leftAfter v j * 2 ^ (j + 1) < 2 ^ n) (let f : 63 - j + (j + 1) ≡ 64 = omega arith in f)
+    (shl-lt (63 - j) (j + 1) (leading-gone v j h k)))
 
 xor-shl : (k a b : ℕ) → bitXor a b * 2 ^ k ≡ bitXor (a * 2 ^ k) (b * 2 ^ k)
 xor-shl k a b =
@@ -103,13 +103,13 @@ xor-shl k a b =
     ∙ xor-block k a b 0 0 (pow-pos k) (pow-pos k)
     ∙ add-zero (bitXor a b * 2 ^ k))
 
-turn : (v j b : ℕ) → j < 51 → Moved v j b → Moved v (j + 1) (bitXor b (coefficient b 62 * (g * 2 ^ 50)) * 2)
+turn : (v j b : ℕ) → j < 51 → Moved v j b → Moved v (j + 1) (bitXor b (coefficient b 63 * (g * 2 ^ 51)) * 2)
 unfolding leftAfter
 turn v j b h e =
-    ap (λ (x : ℕ). bitXor x (coefficient x 62 * (g * 2 ^ 50)) * 2) e
-    ∙ ap (λ (x : ℕ). x * 2) (sym (xor-shl j L (coefficient L p * (g * 2 ^ (p - 12))) ∙ ap (bitXor (L * 2 ^ j)) taken))
-    ∙ mul-assoc (step L p) (2 ^ j) 2
-    ∙ ap₂ (λ (x y : ℕ). x * y) (ap (leftAfter v) (sym (add-one j))) (sym (pow-add 2 j 1))
+    ap (λ (x : ℕ). bitXor x (coefficient x 63 * (g * 2 ^ 51)) * 2) e
+    ∙ ap (λ (x : ℕ). x * 2) (sym (xor-shl s L (coefficient L p * (g * 2 ^ (p - 12))) ∙ ap (bitXor (L * 2 ^ s)) taken))
+    ∙ mul-assoc (step L p) (2 ^ s) 2
+    ∙ ap₂ (λ (x y : ℕ). x * y) (ap (leftAfter v) (sym (add-one j))) (sym (pow-add 2 s 1))
   where
     L : ℕ
     L = leftAfter v j
@@ -117,25 +117,28 @@ turn v j b h e =
     p : ℕ
     p = 62 - j
 
-    lead : coefficient L p ≡ coefficient (L * 2 ^ j) 62
+    s : ℕ
+    s = j + 1
+
+    lead : coefficient L p ≡ coefficient (L * 2 ^ s) 63
     lead =
         ap (λ (x : ℕ). x % 2)
-        (ap (λ (x : ℕ). x / 2 ^ p) (sym (shl-shr L j))
-        ∙ shr-shr (L * 2 ^ j) j p
-        ∙ ap (λ (i : ℕ). L * 2 ^ j / 2 ^ i) (let f : j + p ≡ 62 = omega arith in f))
+        (ap (λ (x : ℕ). x / 2 ^ p) (sym (shl-shr L s))
+        ∙ shr-shr (L * 2 ^ s) s p
+        ∙ ap (λ (i : ℕ). L * 2 ^ s / 2 ^ i) (let f : s + p ≡ 63 = omega arith in f))
 
-    there : g * 2 ^ (p - 12) * 2 ^ j ≡ g * 2 ^ 50
+    there : g * 2 ^ (p - 12) * 2 ^ s ≡ g * 2 ^ 51
     there =
-        mul-assoc g (2 ^ (p - 12)) (2 ^ j)
-        ∙ ap (λ (x : ℕ). g * x) (sym (pow-add 2 (p - 12) j) ∙ ap (λ (i : ℕ). 2 ^ i) (let f : p - 12 + j ≡ 50 = omega arith in f))
+        mul-assoc g (2 ^ (p - 12)) (2 ^ s)
+        ∙ ap (λ (x : ℕ). g * x) (sym (pow-add 2 (p - 12) s) ∙ ap (λ (i : ℕ). 2 ^ i) (let f : p - 12 + s ≡ 51 = omega arith in f))
 
-    taken : coefficient L p * (g * 2 ^ (p - 12)) * 2 ^ j ≡ coefficient (L * 2 ^ j) 62 * (g * 2 ^ 50)
-    taken = mul-assoc (coefficient L p) (g * 2 ^ (p - 12)) (2 ^ j) ∙ ap₂ (λ (x y : ℕ). x * y) lead there
+    taken : coefficient L p * (g * 2 ^ (p - 12)) * 2 ^ s ≡ coefficient (L * 2 ^ s) 63 * (g * 2 ^ 51)
+    taken = mul-assoc (coefficient L p) (g * 2 ^ (p - 12)) (2 ^ s) ∙ ap₂ (λ (x y : ℕ). x * y) lead there
 
-pub turn-one : (v j b : ℕ) → j < 51 → Moved v j b → coefficient b 62 ≡ 1 → Moved v (j + 1) (bitXor b (g * 2 ^ 50) * 2)
-turn-one v j b h e c = ap (λ (x : ℕ). bitXor b (x * (g * 2 ^ 50)) * 2) (sym c) ∙ turn v j b h e
+pub turn-one : (v j b : ℕ) → j < 51 → Moved v j b → b / 2 ^ 63 ≡ 1 → Moved v (j + 1) (bitXor b (g * 2 ^ 51) * 2)
+turn-one v j b h e c = ap (λ (x : ℕ). bitXor b (x % 2 * (g * 2 ^ 51)) * 2) (sym c) ∙ turn v j b h e
 
-pub turn-zero : (v j b : ℕ) → j < 51 → Moved v j b → (coefficient b 62 ≡ 1 → ⊥) → Moved v (j + 1) (b * 2)
-turn-zero v j b h e n =
-    let c : coefficient b 62 ≡ 0 = omega (arith, bit-lt (b / 2 ^ 62)) in
-    ap (λ (x : ℕ). x * 2) (sym (ap (λ (x : ℕ). bitXor b (x * (g * 2 ^ 50))) c ∙ xor-zero-r b)) ∙ turn v j b h e
+pub turn-zero : (v j b : ℕ) → v < 2 ^ 63 → j < 51 → Moved v j b → (b / 2 ^ 63 ≡ 1 → ⊥) → Moved v (j + 1) (b * 2)
+turn-zero v j b l h e n =
+    let c : coefficient b 63 ≡ 0 = omega (arith, moved-lt v j b l (omega arith) e) in
+    ap (λ (x : ℕ). x * 2) (sym (ap (λ (x : ℕ). bitXor b (x * (g * 2 ^ 51))) c ∙ xor-zero-r b)) ∙ turn v j b h e

@@ -7,25 +7,27 @@ ghost use Rattle.poly.specs.Poly.{wordBits, rem};
 // power of x:  12 11 10 9 8 7 6 5 4 3 2 1 0
 const G: u64 = 0b1__0__1_0_1_0_0_1_1_1_0_0_1;
 
-// The code is (n, k): a word has n coefficients, the first that of x^(n-1), and the degree of g is n - k.
+// n: a word has n coefficients, that of x^(n-1) first.
 const N: u64 = 63;
 
+// k: the degree of g is n - k, so the division of a word has k steps.
 const K: u64 = 51;
 
-// The remainder b(x) of v(x) = a(x) g(x) + b(x), where v(x) is the n low coefficients of v, after k steps of long division.
+// The remainder b(x) of v(x) = a(x) g(x) + b(x), by long division. v(x) is the n low coefficients of v.
 pub fn remainder(v: u64) -> u64
     ensures { λ r. ⌜ r ≡ rem wordBits v ⌝ }
 {
-    let mut b = v % (1 << N);
+    // x v(x): the first of the n coefficients leads, as that of x^n.
+    let mut b = v << 1;
     let mut step = 0;
     while step < K {
-        // If the leading coefficient, that of x^(n-1), is one, take g away there: g(x) x^(k-1) leads with x^(n-1) too.
-        if (b >> (N - 1)) % 2 == 1 {
-            b ^= G << (K - 1);
+        // If the leading coefficient is one, take g away there: g(x) x^k leads with x^n too.
+        if b >> N == 1 {
+            b ^= G << K;
         }
-        // Move on: the next coefficient is now the leading one.
+        // Move on: the next coefficient leads.
         b <<= 1;
         step += 1;
     }
-    b >> K
+    b >> (K + 1)
 }

@@ -41,8 +41,8 @@ fn hex_digit(d: u8) -> u8
     b'A' - 10 + d
 }
 
-// The digits of p. The last is put first.
-fn hex_digits(p: u64) -> [u8; 16]
+// The 16 hexadecimal digits of p. The last is put first.
+pub fn hex_digits(p: u64) -> [u8; 16]
     ensures { λ r. ⌜ r ≡ hex16 p ⌝ }
 {
     let mut digits = [0u8; 16];

@@ -14,6 +14,7 @@ pub use account::Step;
 pub use account::Told;
 pub use account::account_head;
 pub use account::account_line;
+pub use account::hex_digits;
 
 // Puts `piece` into `out` from place `at` on, and answers the place after it.
 pub(crate) fn put(out: &mut [u8], at: usize, piece: &[u8]) -> usize

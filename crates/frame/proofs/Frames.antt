@@ -6,7 +6,7 @@
 -- │ some-frame    │ each data word has a frame                                     │
 -- │ one-frame     │ and only one                                                   │
 -- │ frame-high    │ which is at least 2^47                                         │
--- │ check-bits    │ its check bits are what the other positions leave              │
+-- │ checks-left   │ its check bits are what the other positions leave              │
 -- └───────────────┴────────────────────────────────────────────────────────────────┘
 use mathlib.Core.Path.{_≡_, refl, sym, ap, ap₂, _∙_, subst}
 use Prim.Native.Nat.{ℕ, _+_, _-_, _*_, _/_, _%_, _^_, _<_, _≤_}
@@ -21,7 +21,7 @@ use Rattle.poly.proofs.Division.{rem-xor, rem-small, rem-lt, leaves-nothing, is
 use Rattle.bch.specs.Code.{CodeWord, position}
 use Rattle.bch.proofs.Nearest.{code-lt}
 use Rattle.frame.specs.Word.{wordOf, padOf, dataOf, Lawful, FrameOf, padded}
-use Rattle.frame.specs.Claims.{SomeFrame, OneFrame, FrameHigh, CheckBits}
+use Rattle.frame.specs.Claims.{SomeFrame, OneFrame, FrameHigh, ChecksLeft}
 use Rattle.frame.proofs.Fields.{data-laid, runs-laid, top, top-lt, same-top}
 
 abbrev pub sent : ℕ → ℕ
@@ -104,8 +104,8 @@ one-frame d f f′ m m′ =
     let p : padOf f ≡ padOf f′ = m .pad ∙ ap (λ (w : ℕ). 1 - position w 62) e ∙ sym (m′ .pad) in
     sym (div-add-mod' f 2) ∙ ap₂ (λ (i j : ℕ). i * 2 + j) e p ∙ div-add-mod' f′ 2
 
-pub check-bits : CheckBits
-check-bits d f m =
+pub checks-left : ChecksLeft
+checks-left d f m =
     let w : ℕ = wordOf f in
     let t : ℕ = w / 2 ^ 12 * 2 ^ 12 in
     let c : ℕ = w % 2 ^ 12 in

@@ -3,7 +3,7 @@
 -- │ SomeFrame  │ each data word has a frame                                      │
 -- │ OneFrame   │ and only one                                                    │
 -- │ FrameHigh  │ as a number it is at least 2^47                                 │
--- │ CheckBits  │ its check bits are what the other positions of its word leave   │
+-- │ ChecksLeft │ its check bits are what the other positions of its word leave   │
 -- │            │ by long division                                                │
 -- │ RunBound   │ lawful frames end to end have no run longer than `longestRun`   │
 -- │ RunReached │ and some have one as long                                       │
@@ -30,8 +30,8 @@ OneFrame = (d f f′ : ℕ) → FrameOf d f → FrameOf d f′ → f ≡ f′
 abbrev pub FrameHigh : Type 0
 FrameHigh = (d f : ℕ) → FrameOf d f → 2 ^ 47 ≤ f
 
-abbrev pub CheckBits : Type 0
-CheckBits = (d f : ℕ) → FrameOf d f → rem wordBits (wordOf f / 2 ^ 12 * 2 ^ 12) ≡ wordOf f % 2 ^ 12
+abbrev pub ChecksLeft : Type 0
+ChecksLeft = (d f : ℕ) → FrameOf d f → rem wordBits (wordOf f / 2 ^ 12 * 2 ^ 12) ≡ wordOf f % 2 ^ 12
 
 abbrev pub RunBound : Type 0
 RunBound = (fs : List ℕ) → AllLawful fs → (s n : ℕ) → Run fs s n → n ≤ longestRun

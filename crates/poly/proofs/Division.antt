@@ -79,7 +79,7 @@ unfolding rem
 rem-more zero v h = ap (rem 1) (lt-one h)
 rem-more (suc k) v h = ap (λ (x : ℕ). reduce (x * 2 + v % 2)) (rem-more k (v / 2) (half-pow k v h))
 
-pub rem-zero : (k : ℕ) → rem k 0 ≡ 0
+rem-zero : (k : ℕ) → rem k 0 ≡ 0
 unfolding rem
 rem-zero zero = refl
 rem-zero (suc k) = ap (λ (x : ℕ). reduce (x * 2 + 0)) (rem-zero k)

@@ -17,12 +17,12 @@ use lib.Pow.{pow-pos, pow-add, split, high, mod-pow-add, shl-lt, shl-shr, shr-sh
 use lib.Bits.{bitXor, xor-block, xor-zero-r}
 use Rattle.laws.proofs.Xor.{bit-lt}
 use Rattle.poly.specs.Poly.{g, reduce, rem}
-use Rattle.poly.specs.Steps.{coefficient, step, leftAfter}
+use Rattle.poly.specs.Steps.{coefficient, stepAt, leftAfter}
 use Rattle.poly.specs.Claims.{LeadingPart, LeadingGone, LeavesRemainder}
 use Rattle.poly.proofs.Division.{rem-lt, rem-small, rem-more}
 
 -- a step at the leading one of 13 coefficients t that m others follow
-step-reduces : (t m l : ℕ) → t < 8192 → l < 2 ^ m → step (t * 2 ^ m + l) (m + 12) ≡ reduce t * 2 ^ m + l
+step-reduces : (t m l : ℕ) → t < 8192 → l < 2 ^ m → stepAt (t * 2 ^ m + l) (m + 12) ≡ reduce t * 2 ^ m + l
 step-reduces t m l h k =
     ap₂ (λ (c i : ℕ). bitXor (t * 2 ^ m + l) (c * (g * 2 ^ i))) lead (let e : m + 12 - 12 ≡ m = omega arith in e)
     ∙ ap (bitXor (t * 2 ^ m + l)) (sym (mul-assoc (t / 4096) g (2 ^ m)) ∙ sym (add-zero (t / 4096 * g * 2 ^ m)))
@@ -42,7 +42,7 @@ leading-part v zero m h e =
     few : v / 2 ^ m < 4096
     few = subst (λ (i : ℕ). v / 2 ^ i < 4096) (sym e ∙ zero-add m) (let f : v / 2 ^ 51 < 4096 = omega arith in f)
 leading-part v (suc j) m h e =
-    ap₂ step (leading-part v j (1 + m) h (omega arith) ∙ brought-down) (let f : 62 - j ≡ m + 12 = omega arith in f)
+    ap₂ stepAt (leading-part v j (1 + m) h (omega arith) ∙ brought-down) (let f : 62 - j ≡ m + 12 = omega arith in f)
     ∙ step-reduces (R * 2 + c) m (v % 2 ^ m) (omega (arith, rem-lt 63 (v / 2 ^ (1 + m)), bit-lt (v / 2 ^ m))) (mod-lt v (pow-pos m))
     ∙ ap (λ (x : ℕ). x * 2 ^ m + v % 2 ^ m) one-longer
   where
@@ -108,7 +108,7 @@ unfolding leftAfter
 turn v j b h e =
     ap (λ (x : ℕ). bitXor x (coefficient x 63 * (g * 2 ^ 51)) * 2) e
     ∙ ap (λ (x : ℕ). x * 2) (sym (xor-shl s L (coefficient L p * (g * 2 ^ (p - 12))) ∙ ap (bitXor (L * 2 ^ s)) taken))
-    ∙ mul-assoc (step L p) (2 ^ s) 2
+    ∙ mul-assoc (stepAt L p) (2 ^ s) 2
     ∙ ap₂ (λ (x y : ℕ). x * y) (ap (leftAfter v) (sym (add-one j))) (sym (pow-add 2 s 1))
   where
     L : ℕ

@@ -31,7 +31,7 @@ version=$(sed -n 's/^Version: //p' "$package")
 library=liblakshrumov.so.${version%%.*}
 files_of "$desk" >"$room/before"
 cut -d ' ' -f 3 "$room/before" >"$room/installed"
-printf './%s\n' bin/{listing,salvage} include/lakshrumov.h lib/liblakshrumov.{a,so} "lib/$library" lib/pkgconfig/lakshrumov.pc >"$room/due"
+printf './%s\n' bin/{division,listing,salvage} include/lakshrumov.h lib/liblakshrumov.{a,so} "lib/$library" lib/pkgconfig/lakshrumov.pc >"$room/due"
 same "what is installed" "$room/installed" "$room/due"
 no_room() { (ulimit -f 1 && "$@"); }
 ends 1 no_room ./run --install "$desk"
@@ -52,6 +52,8 @@ ends 0 without_kit "$desk/bin/listing" captures/example.bin
 prints "the installed listing" captures/example.txt
 ends 0 without_kit "$desk/bin/salvage" captures/lane-7.cap "$here/salvaged.cap"
 prints "the installed salvage" captures/lane-7-account.txt
+ends 0 without_kit "$desk/bin/division" <<<0000000000000001
+prints "the installed division" tests/division/1.txt
 
 words() { # FIELD: of the pkg-config file, whose variables the shell can read
     (pcfiledir=${package%/*} && eval "$(grep '^[a-z]*=' "$package")" && eval "printf '%s\n' $(sed -n "s/^$1: //p" "$package")")

@@ -1,19 +1,24 @@
--- Long division by hand leaves what `rem` says, step by step; and the loop, which moves what is left and not g, takes the same steps.
--- ┌──────────────────┬──────────────────────────────────────────────────────────────┐
--- │ leading-part     │ the leading coefficients leave their remainder               │
--- │ leading-gone     │ the leading ones are 0                                       │
--- │ leaves-remainder │ after 51 steps the remainder is left                         │
--- │ Moved v j b      │ b is what is left of v after j steps, j + 1 positions on     │
--- │ moved-lt         │ it has 64 coefficients                                       │
--- │ turn-one         │ a turn of the loop where the leading coefficient is 1        │
--- │ turn-zero        │ and where it is 0                                            │
--- └──────────────────┴──────────────────────────────────────────────────────────────┘
+-- Long division by hand leaves what `rem` says, step by step; and a turn of the loop is a step.
+-- ┌───────────────────┬─────────────────────────────────────────────────────────────┐
+-- │ leading-part      │ the leading coefficients leave their remainder              │
+-- │ leading-gone      │ the leading ones are 0                                      │
+-- │ leaves-remainder  │ after 51 steps the remainder is left                        │
+-- │ Stands v j b lead │ where the loop stands after j steps: b is what is left of v,│
+-- │   h               │ lead the power to look at, and h is g with its leading term │
+-- │                   │ there                                                       │
+-- │ begins            │ it begins so                                                │
+-- │ goes-on           │ there is a step as long as h is not below g                 │
+-- │ turn-one          │ a turn where the leading coefficient is 1                   │
+-- │ turn-zero         │ and where it is 0                                           │
+-- │ ends              │ the remainder is left when it ends                          │
+-- └───────────────────┴─────────────────────────────────────────────────────────────┘
 use mathlib.Core.Path.{_≡_, refl, sym, ap, ap₂, _∙_, subst}
 use Prim.Native.Nat.{ℕ, zero, suc, _+_, _-_, _*_, _/_, _%_, _^_, _<_, _≤_}
-use native.Mathlib.Nat.{mul-assoc, mul-one, add-assoc, add-mul, add-zero, zero-add, div-one, mod-one, mod-lt, mod-eq-of-lt, div-lt-iff-lt-mul}
-use native.Mathlib.Numerals.{add-one}
+use native.Mathlib.Decide.{decLe}
+use native.Mathlib.Nat.{mul-assoc, mul-one, one-mul, zero-mul, add-assoc, add-mul, add-zero, zero-add, zero-lt-suc, div-one, mod-one, mod-lt, mod-eq-of-lt}
+use native.Mathlib.Nat.{div-lt-iff-lt-mul, div-eq-of-lt, mul-div-cancel}
 use native.Mathlib.Omega.{arith}
-use lib.Pow.{pow-pos, pow-add, split, high, mod-pow-add, shl-lt, shl-shr, shr-shr, shr-le}
+use lib.Pow.{pow-pos, pow-add, split, high, mod-pow-add, shr-shr, shr-le}
 use lib.Bits.{bitXor, xor-block, xor-zero-r}
 use Rattle.laws.proofs.Xor.{bit-lt}
 use Rattle.poly.specs.Poly.{g, reduce, rem}
@@ -87,58 +92,83 @@ leaves-remainder v h =
     ∙ add-zero (rem 63 v * 1)
     ∙ mul-one (rem 63 v)
 
-abbrev pub Moved : ℕ → ℕ → ℕ → Type 0
-Moved v j b = b ≡ leftAfter v j * 2 ^ (j + 1)
+pub record Stands (v j b lead h : ℕ) : Type 0 where
+  pub few : j ≤ 51
+  pub left : b ≡ leftAfter v j
+  pub power : lead ≡ 2 ^ (62 - j)
+  pub there : h ≡ g * 2 ^ (51 - j) / 2
 
-pub moved-lt : (v j b : ℕ) → v < 2 ^ 63 → j ≤ 51 → Moved v j b → b < 2 ^ 64
-moved-lt v j b h k e =
-    subst (λ (x : ℕ). x < 2 ^ 64) (sym e)
-    (subst (λ (n : ℕ). leftAfter v j * 2 ^ (j + 1) < 2 ^ n) (let f : 63 - j + (j + 1) ≡ 64 = omega arith in f)
-    (shl-lt (63 - j) (j + 1) (leading-gone v j h k)))
+doubled : (n m : ℕ) → n ≡ m + 1 → 2 ^ n ≡ 2 ^ m * 2
+doubled n m e = ap (λ (i : ℕ). 2 ^ i) e ∙ pow-add 2 m 1
 
-xor-shl : (k a b : ℕ) → bitXor a b * 2 ^ k ≡ bitXor (a * 2 ^ k) (b * 2 ^ k)
-xor-shl k a b =
-    sym
-    (ap₂ bitXor (sym (add-zero (a * 2 ^ k))) (sym (add-zero (b * 2 ^ k)))
-    ∙ xor-block k a b 0 0 (pow-pos k) (pow-pos k)
-    ∙ add-zero (bitXor a b * 2 ^ k))
-
-turn : (v j b : ℕ) → j < 51 → Moved v j b → Moved v (j + 1) (bitXor b (coefficient b 63 * (g * 2 ^ 51)) * 2)
+pub begins : (v : ℕ) → Stands v 0 v (2 ^ 62) (g * 2 ^ 50)
 unfolding leftAfter
-turn v j b h e =
-    ap (λ (x : ℕ). bitXor x (coefficient x 63 * (g * 2 ^ 51)) * 2) e
-    ∙ ap (λ (x : ℕ). x * 2) (sym (xor-shl s L (coefficient L p * (g * 2 ^ (p - 12))) ∙ ap (bitXor (L * 2 ^ s)) taken))
-    ∙ mul-assoc (stepAt L p) (2 ^ s) 2
-    ∙ ap₂ (λ (x y : ℕ). x * y) (ap (leftAfter v) (sym (add-one j))) (sym (pow-add 2 s 1))
+begins v = record { few = omega arith; left = refl; power = refl; there = refl }
+
+pub goes-on : (v j b lead h : ℕ) → Stands v j b lead h → g ≤ h → j < 51
+goes-on v j b lead h s l = by (decLe 51 j)
+  where
+    by : Dec (51 ≤ j) → j < 51
+    by (no n) = omega arith
+    by (yes m) =
+        let e : h ≡ g * 2 ^ 0 / 2 = s .there ∙ ap (λ (i : ℕ). g * 2 ^ i / 2) (let f : 51 - j ≡ 0 = omega arith in f) in omega arith
+
+-- where g stands at a step
+g-there : (v j b lead h : ℕ) → Stands v j b lead h → j < 51 → h ≡ g * 2 ^ (50 - j)
+g-there v j b lead h s k =
+    s .there
+    ∙ ap (λ (x : ℕ). g * x / 2) (doubled (51 - j) (50 - j) (omega arith))
+    ∙ ap (λ (x : ℕ). x / 2) (sym (mul-assoc g (2 ^ (50 - j)) 2))
+    ∙ mul-div-cancel (g * 2 ^ (50 - j)) (zero-lt-suc 1)
+
+-- whatever the step takes away, it is followed by this
+stands-next : (v j b lead h : ℕ) → Stands v j b lead h → j < 51 → (b′ : ℕ) → b′ ≡ leftAfter v (suc j)
+    → Stands v (suc j) b′ (lead / 2) (h / 2)
+stands-next v j b lead h s k b′ e = record {
+  few = k;
+  left = e;
+  power =
+      ap (λ (x : ℕ). x / 2) (s .power ∙ doubled (62 - j) (62 - suc j) (omega arith))
+      ∙ mul-div-cancel (2 ^ (62 - suc j)) (zero-lt-suc 1);
+  there =
+      ap (λ (x : ℕ). x / 2) (g-there v j b lead h s k)
+      ∙ ap (λ (i : ℕ). g * 2 ^ i / 2) (let f : 50 - j ≡ 51 - suc j = omega arith in f);
+}
+
+taken : (v j c : ℕ) → j < 51 → coefficient (leftAfter v j) (62 - j) ≡ c → leftAfter v (suc j) ≡ bitXor (leftAfter v j) (c * (g * 2 ^ (50 - j)))
+unfolding leftAfter
+taken v j c k e = ap₂ (λ (x i : ℕ). bitXor (leftAfter v j) (x * (g * 2 ^ i))) e (let f : 62 - j - 12 ≡ 50 - j = omega arith in f)
+
+pub turn-one : (v j b lead h : ℕ) → v < 2 ^ 63 → Stands v j b lead h → j < 51 → lead ≤ b → Stands v (suc j) (bitXor b h) (lead / 2) (h / 2)
+turn-one v j b lead h l s k m =
+    stands-next v j b lead h s k (bitXor b h)
+    (ap₂ bitXor (s .left) (g-there v j b lead h s k ∙ sym (one-mul (g * 2 ^ (50 - j)))) ∙ sym (taken v j 1 k one))
   where
     L : ℕ
     L = leftAfter v j
 
-    p : ℕ
-    p = 62 - j
+    above : 2 ^ (62 - j) ≤ L
+    above = omega (arith, m, s .left, s .power)
 
-    s : ℕ
-    s = j + 1
+    below : L < 2 ^ (62 - j) * 2
+    below = subst (λ (x : ℕ). L < x) (doubled (63 - j) (62 - j) (omega arith)) (leading-gone v j l (omega arith))
 
-    lead : coefficient L p ≡ coefficient (L * 2 ^ s) 63
-    lead =
-        ap (λ (x : ℕ). x % 2)
-        (ap (λ (x : ℕ). x / 2 ^ p) (sym (shl-shr L s))
-        ∙ shr-shr (L * 2 ^ s) s p
-        ∙ ap (λ (i : ℕ). L * 2 ^ s / 2 ^ i) (let f : s + p ≡ 63 = omega arith in f))
+    one : coefficient L (62 - j) ≡ 1
+    one =
+        ap (λ (x : ℕ). x / 2 ^ (62 - j) % 2) (let e : L ≡ 1 * 2 ^ (62 - j) + (L - 2 ^ (62 - j)) = omega (arith, above) in e)
+        ∙ ap (λ (x : ℕ). x % 2) (high 1 (62 - j) {lo = L - 2 ^ (62 - j)} (omega (arith, above, below)))
 
-    there : g * 2 ^ (p - 12) * 2 ^ s ≡ g * 2 ^ 51
-    there =
-        mul-assoc g (2 ^ (p - 12)) (2 ^ s)
-        ∙ ap (λ (x : ℕ). g * x) (sym (pow-add 2 (p - 12) s) ∙ ap (λ (i : ℕ). 2 ^ i) (let f : p - 12 + s ≡ 51 = omega arith in f))
+pub turn-zero : (v j b lead h : ℕ) → Stands v j b lead h → j < 51 → b < lead → Stands v (suc j) b (lead / 2) (h / 2)
+turn-zero v j b lead h s k m =
+    stands-next v j b lead h s k b
+    (s .left ∙ sym (taken v j 0 k zero-there ∙ ap (bitXor (leftAfter v j)) (zero-mul (g * 2 ^ (50 - j))) ∙ xor-zero-r (leftAfter v j)))
+  where
+    zero-there : coefficient (leftAfter v j) (62 - j) ≡ 0
+    zero-there = ap (λ (x : ℕ). x % 2) (div-eq-of-lt (let e : leftAfter v j < 2 ^ (62 - j) = omega (arith, m, s .left, s .power) in e))
 
-    taken : coefficient L p * (g * 2 ^ (p - 12)) * 2 ^ s ≡ coefficient (L * 2 ^ s) 63 * (g * 2 ^ 51)
-    taken = mul-assoc (coefficient L p) (g * 2 ^ (p - 12)) (2 ^ s) ∙ ap₂ (λ (x y : ℕ). x * y) lead there
-
-pub turn-one : (v j b : ℕ) → j < 51 → Moved v j b → b / 2 ^ 63 ≡ 1 → Moved v (j + 1) (bitXor b (g * 2 ^ 51) * 2)
-turn-one v j b h e c = ap (λ (x : ℕ). bitXor b (x % 2 * (g * 2 ^ 51)) * 2) (sym c) ∙ turn v j b h e
-
-pub turn-zero : (v j b : ℕ) → v < 2 ^ 63 → j < 51 → Moved v j b → (b / 2 ^ 63 ≡ 1 → ⊥) → Moved v (j + 1) (b * 2)
-turn-zero v j b l h e n =
-    let c : coefficient b 63 ≡ 0 = omega (arith, moved-lt v j b l (omega arith) e) in
-    ap (λ (x : ℕ). x * 2) (sym (ap (λ (x : ℕ). bitXor b (x * (g * 2 ^ 51))) c ∙ xor-zero-r b)) ∙ turn v j b h e
+pub ends : (v j b lead h : ℕ) → v < 2 ^ 63 → Stands v j b lead h → h < g → b ≡ rem 63 v
+ends v j b lead h l s m = by (decLe 51 j)
+  where
+    by : Dec (51 ≤ j) → b ≡ rem 63 v
+    by (yes k) = s .left ∙ ap (leftAfter v) (let e : j ≡ 51 = omega (arith, s .few) in e) ∙ leaves-remainder v l
+    by (no n) = let e : ⊥ = omega (arith, g-there v j b lead h s (omega arith), pow-pos (50 - j)) in absurd e

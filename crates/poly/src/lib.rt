@@ -7,7 +7,7 @@ ghost use Rattle.poly.specs.Poly.{wordBits, rem};
 // power of x:  12 11 10 9 8 7 6 5 4 3 2 1 0
 const G: u64 = 0b1__0__1_0_1_0_0_1_1_1_0_0_1;
 
-// n: a word has n coefficients, that of x^(n-1) first.
+// n: a word has n coefficients, those of x^(n-1) to x^0.
 const N: u64 = 63;
 
 // k: the degree of g is n - k, so the division of a word has k steps.
@@ -17,17 +17,18 @@ const K: u64 = 51;
 pub fn remainder(v: u64) -> u64
     ensures { λ r. ⌜ r ≡ rem wordBits v ⌝ }
 {
-    // x v(x): the first of the n coefficients leads, as that of x^n.
-    let mut b = v << 1;
-    let mut step = 0;
-    while step < K {
-        // If the leading coefficient is one, take g away there: g(x) x^k leads with x^n too.
-        if b >> N == 1 {
-            b ^= G << K;
+    let mut b = v % (1 << N);
+    // The leading power, x^(n-1), and g with its leading term there: g(x) x^(k-1). The last step is at g itself.
+    let mut lead = 1 << (N - 1);
+    let mut g = G << (K - 1);
+    while G <= g {
+        // If the leading coefficient is one, b reaches up to that power: take g away there.
+        if lead <= b {
+            b ^= g;
         }
-        // Move on: the next coefficient leads.
-        b <<= 1;
-        step += 1;
+        // Move on.
+        lead >>= 1;
+        g >>= 1;
     }
-    b >> (K + 1)
+    b
 }

@@ -31,7 +31,7 @@ fn show_number(front: &[u8], x: u64) -> bool {
     io::write_all(STDOUT_FILENO, b"\n")
 }
 
-// Whether the lines ahead of the steps are written: what is divided, with the check bits 0.
+// Whether the lines ahead of the steps are written: the data word, and v, which is divided.
 fn show_dividend(data: u64, v: u64) -> bool {
     if !show_number(b"data            ", data) {
         return false;
@@ -45,7 +45,7 @@ fn show_dividend(data: u64, v: u64) -> bool {
     steps::show(b"                ", v, 0, 63)
 }
 
-// Whether the lines after the steps are written: the remainder, the code word and the frame.
+// Whether the lines after the steps are written: the remainder, the code word, the pad in the column of x^62, and the frame.
 fn show_frame(frame: u64) -> bool {
     let word = frame / 2;
     if !steps::show(b"b(x)            ", word, 51, 63) {
@@ -60,7 +60,8 @@ fn show_frame(frame: u64) -> bool {
     show_number(b"frame           ", frame)
 }
 
-// Whether the whole table is written. What a file system takes back later it tells when the output is closed.
+// Whether the whole table is written: that of the frame's word with its check bits 0. What a file system takes back later it tells when the
+// output is closed.
 fn written(data: u64, frame: u64) -> bool {
     let v = frame / 8192 * 4096;
     if !show_dividend(data, v) {

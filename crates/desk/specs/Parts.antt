@@ -1,4 +1,4 @@
--- What only private functions cite: what a count comes to, buffer by buffer.
+-- What only private functions cite: what a count comes to, buffer by buffer, and how a line of a long division shows a polynomial.
 -- ┌────────────────┬────────────────────────────────────────────────────────────────┐
 -- │ ended last u   │ the totals of the whole input, or so far                       │
 -- │ stateOf c last │ what a counted buffer comes to; a refusal of the count ends    │
@@ -8,14 +8,17 @@
 -- │                │ the last, or nothing is                                        │
 -- │ Entries k is   │ the lists have the entries that k counts: is of the altered,   │
 -- │   ps rs        │ ps their places, rs of the refused                             │
+-- │ Shows r first  │ in the columns cs, the coefficient of x^(62-i) in r stands in  │
+-- │   end cs       │ column i, for each i from first on that is before end. The     │
+-- │                │ columns ahead of them are blank, and a line end follows        │
 -- │ Said r         │ the status 1, where something was said on standard error. That │
 -- │                │ it is a status follows, and is stated for callers to find      │
 -- └────────────────┴────────────────────────────────────────────────────────────────┘
 use mathlib.Core.Path.{_≡_}
 use mathlib.Core.Bool.{Bool, true, false}
 use mathlib.Core.List.{List}
-use Prim.Native.Nat.{ℕ}
-use lib.ListN.{take}
+use Prim.Native.Nat.{ℕ, _+_, _-_, _<_, _≤_}
+use lib.ListN.{length, take, getD}
 use lib.IntN.{ℤ, pos}
 use Rattle.input.specs.declared.Input.{Input}
 use Rattle.input.specs.declared.Input.the-variants.{Full, Last, Failed}
@@ -25,6 +28,7 @@ use Rattle.lane.specs.Calls.{CountsPiece}
 use Rattle.lane.specs.declared.Totals.{Totals}
 use Rattle.lane.specs.declared.Counted.{Counted}
 use Rattle.lane.specs.declared.Counted.the-variants as count
+use Rattle.poly.specs.Steps.{coefficient}
 use Rattle.salvage.specs.declared.Counts.{Counts as Salvage-counts}
 use Rattle.io.specs.Counts.{Counts}
 use Rattle.desk.specs.Calls.{Status}
@@ -48,6 +52,12 @@ pub record Entries (k : Salvage-counts) (is ps rs : List ℕ) : Type 0 where
   pub altered : Counts (k .altered) is
   pub places : Counts (k .altered) ps
   pub «refused» : Counts (k .«refused») rs
+
+pub record Shows (r first end : ℕ) (cs : List ℕ) : Type 0 where
+  pub wide : 64 ≡ length cs
+  pub blank : (i : ℕ) → i < first → getD cs i 0 ≡ 32
+  pub shown : (i : ℕ) → first ≤ i → i < end → getD cs i 0 ≡ 48 + coefficient r (62 - i)
+  pub ended : getD cs end 0 ≡ 10
 
 abbrev pub Said : ℤ → Type 0
 Said r = (r ≡ pos 1) × Status r

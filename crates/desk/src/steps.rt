@@ -2,7 +2,7 @@
 ghost use mathlib.Core.Path.{_≡_};
 ghost use Prim.Native.Nat.{_+_, _%_, _^_, _<_, _≤_};
 ghost use Rattle.poly.specs.Steps.{leftAfter};
-ghost use Rattle.desk.specs.Table.{Shows};
+ghost use Rattle.desk.specs.Parts.{Shows};
 use libc::STDOUT_FILENO;
 
 // What is left of v after j steps: the last 51 - j coefficients as they were, and of the others their remainder.

@@ -5,13 +5,14 @@ ghost use Rattle.poly.specs.Steps.{leftAfter};
 ghost use Rattle.desk.specs.Parts.{Shows};
 use libc::STDOUT_FILENO;
 
-// What is left of v after j steps: the last 51 - j coefficients as they were, and of the others their remainder.
+// What is left of v after j steps: the last 51 - j coefficients as they were, and the remainder of those that lead.
 fn left_after(v: u64, j: u64) -> u64
     requires { ⌜ (v < 2 ^ 63) × (j ≤ 51) ⌝ }
     ensures { λ r. ⌜ r ≡ leftAfter v j ⌝ }
 {
     let m = 51 - j;
-    (poly::remainder(v >> m) << m) + v % (1 << m)
+    let leading = v >> m;
+    (poly::remainder(leading) << m) + (v - (leading << m))
 }
 
 fn digit(n: u64) -> u8

@@ -1,47 +1,45 @@
 -- `left_after` puts together what `LeadingPart` names. The shifts lose nothing.
 use mathlib.Core.Path.{_≡_, sym, ap, ap₂, _∙_, subst}
 use Prim.Native.Nat.{ℕ, _+_, _-_, _*_, _/_, _%_, _^_, _<_, _≤_}
-use native.Mathlib.Nat.{one-mul, lt-of-lt-of-le}
+use native.Mathlib.Nat.{mod-eq-of-lt}
 use native.Mathlib.Omega.{arith}
 use borrow.Author.Needs.{needs}
-use lib.Dec.{lit<}
-use lib.Pow.{pow-pos, pow-mono, shl-exact}
+use lib.Pow.{pow-mono, shl-lt, shl-exact, split}
 use Rattle.poly.specs.Poly.{rem}
-use Rattle.poly.specs.Steps.{leftAfter}
 use Rattle.poly.proofs.Division.{rem-lt}
-use Rattle.poly.proofs.Steps.{leading-part, leading-gone}
+use Rattle.poly.proofs.Steps.{leading-part}
 use Rattle.desk.proofs.steps.left_after.Statement.{statement}
 use Rattle.desk.proofs.steps.left_after.Tie as tie
 
-one-shl : (m : ℕ) → m ≤ 51 → 1 * 2 ^ m % 2 ^ 64 ≡ 2 ^ m
-one-shl m h = shl-exact {a = 1} 1 m 64 (lit< tt) (omega arith) ∙ one-mul (2 ^ m)
+-- the leading part, in its place
+placed : (v m : ℕ) → v < 2 ^ 63 → v / 2 ^ m * 2 ^ m % 2 ^ 64 ≡ v / 2 ^ m * 2 ^ m
+placed v m h = mod-eq-of-lt (omega (arith, split v m))
 
-put-together : (v j r : ℕ) → v < 2 ^ 63 → j ≤ 51 → r ≡ rem 63 (v / 2 ^ (51 - j)) → r * 2 ^ (51 - j) % 2 ^ 64 + v % (1 * 2 ^ (51 - j) % 2 ^ 64) ≡ leftAfter v j
-put-together v j r h k e =
-    ap₂ (λ (x y : ℕ). x * 2 ^ (51 - j) % 2 ^ 64 + v % y) e (one-shl (51 - j) (omega arith))
-    ∙ ap (λ (x : ℕ). x + v % 2 ^ (51 - j)) (shl-exact 12 (51 - j) 64 (rem-lt 63 (v / 2 ^ (51 - j))) (omega arith))
-    ∙ sym (leading-part v j (51 - j) h (omega arith))
+rest : (v m : ℕ) → v < 2 ^ 63 → v - v / 2 ^ m * 2 ^ m % 2 ^ 64 ≡ v % 2 ^ m
+rest v m h = omega (arith, placed v m h, split v m)
 
-rem-result : tie.Need-rem-result
-rem-result c =
-    let a = c .before .args in
-    subst (λ (x : ℕ). 0 < x) (sym (one-shl (51 - a .j) (omega arith))) (pow-pos (51 - a .j))
+-- twelve coefficients, moved
+moved : (r m : ℕ) → r < 4096 → m ≤ 51 → (r * 2 ^ m % 2 ^ 64 ≡ r * 2 ^ m) × (r * 2 ^ m < 2 ^ 63)
+moved r m h k = (shl-exact 12 m 64 h (omega arith), omega (arith, shl-lt 12 m h, pow-mono {i = 12 + m} {j = 63} (omega arith)))
+
+sub-result : tie.Need-sub-result
+sub-result c = let v = c .before .args .v in let m = 51 - c .before .args .j in omega (arith, placed v m (c .before .pre .0), split v m)
 
 add-result : tie.Need-add-result
 add-result c =
-    let a = c .before .args in
-    let p = c .before .pre in
-    let sum = put-together (a .v) (a .j) (c .remainder .result) (p .0) (p .1) (c .remainder .ensures) in
-    let fits = lt-of-lt-of-le (leading-gone (a .v) (a .j) (p .0) (p .1)) (pow-mono {i = 63 - a .j} {j = 64} (omega arith)) in
-    omega (arith, sum, fits)
+    let few = subst (λ (x : ℕ). x < 4096) (sym (c .remainder .ensures)) (rem-lt 63 _) in
+    let fits = moved (c .remainder .result) (51 - c .before .args .j) few (omega arith) in
+    omega (arith, fits .0, fits .1)
 
 returns : tie.Need-returns
 returns c =
-    let a = c .before .args in
-    let p = c .before .pre in
-    put-together (a .v) (a .j) (c .remainder .result) (p .0) (p .1) (c .remainder .ensures)
+    let v = c .before .args .v in
+    let j = c .before .args .j in
+    let m = 51 - j in
+    let h = c .before .pre .0 in
+    ap₂ (λ (x y : ℕ). x * 2 ^ m % 2 ^ 64 + y) (c .remainder .ensures) (rest v m h)
+    ∙ ap (λ (x : ℕ). x + v % 2 ^ m) (moved (rem 63 (v / 2 ^ m)) m (rem-lt 63 (v / 2 ^ m)) (omega arith) .0)
+    ∙ sym (leading-part v j m h (omega arith))
 
 pub left-after-spec : {M : Type 1} → statement M
-left-after-spec =
-    tie.close
-    (tie.spec (search needs) (search needs) (search needs) (search needs) (search needs) rem-result add-result returns)
+left-after-spec = tie.close (tie.spec (search needs) (search needs) (search needs) (search needs) (search needs) sub-result add-result returns)

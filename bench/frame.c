@@ -24,16 +24,6 @@ static uint8_t in_bytes[STORE * 8], out_bytes[STORE * 8];
 
 // ---- the same work in C
 
-static uint64_t with_run(uint64_t x) { return x * 2 + (1 - x % 2); }
-
-// by division, for the tables
-static uint64_t frame_of(uint64_t d)
-{
-    uint64_t top = ((with_run(d >> 32) << 34) + (with_run((d >> 16) & 0xffff) << 17) + with_run(d & 0xffff)) << 12;
-    uint64_t w = top + division(top);
-    return w * 2 + (1 - w % 2);
-}
-
 // The frame of each byte of data at its place, without that of 0: a frame is their sum and the frame of 0, which the lowest byte has.
 static uint64_t made[6][256];
 

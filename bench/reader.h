@@ -20,6 +20,15 @@ static uint64_t division(uint64_t v)
     return left >> 51;
 }
 
+static inline uint64_t with_run(uint64_t x) { return x * 2 + (1 - x % 2); }
+
+// the frame of a data word, by division
+static inline uint64_t frame_of(uint64_t d)
+{
+    uint64_t top = ((with_run(d >> 32) << 34) + (with_run(d >> 16 & 0xffff) << 17) + with_run(d & 0xffff)) << 12, w = top + division(top);
+    return w * 2 + (1 - w % 2);
+}
+
 // positions 16, 33 and 50 of a word, each added to the one before it
 static uint64_t run_sums(uint64_t w)
 {

@@ -75,14 +75,6 @@ __attribute__((noinline)) static uint8_t c_salvage(uint8_t *restrict f, size_t l
 
 // ---- the store, with the trailer after its first n frames: as much work for every n
 
-static uint64_t with_run(uint64_t x) { return x * 2 + (1 - x % 2); }
-
-static uint64_t frame_of(uint64_t d)
-{
-    uint64_t top = ((with_run(d >> 32) << 34) + (with_run(d >> 16 & 0xffff) << 17) + with_run(d & 0xffff)) << 12, w = top + division(top);
-    return w * 2 + (1 - w % 2);
-}
-
 // Positions 60, 61 and 62 together are within two flips of no code word.
 static uint64_t flips(const char *kind, uint64_t x)
 {

@@ -1,9 +1,10 @@
-/* Frames of the serial line and capture files, for host programs in C and C++ on x86-64. Link with liblakshrumov.a or liblakshrumov.so, as
- * `./run --install` lays them down, or with libhost.a, as `rt staticlib host` makes it.
+/* Frames of the serial line, pairs of frames and capture files, for host programs in C and C++ on x86-64. Link with liblakshrumov.a or
+ * liblakshrumov.so, as `./run --install` lays them down, or with libhost.a, as `rt staticlib host` makes it.
  *
  * A frame is 64 line bits held as a 64-bit number, position 0 as its highest bit. A data word is a number below 2^48.
- * A list of 64-bit numbers is a run of bytes, eight bytes a number, highest first. A capture file is the frames of a lane, then any notes,
- * then a trailer: see below.
+ * A list of 64-bit numbers is a run of bytes, eight bytes a number, highest first. A pair of frames, A and B, is the 128 line bits
+ * A0 B0 A1 B1 and so on, held as two 64-bit words, the first of the bits as the highest of the first word. A capture file is the frames of a
+ * lane, then any notes, then a trailer: see below.
  *
  * What a caller owes, in every call:
  *   - a pointer and the length beside it describe bytes that may be read, and written where the pointer is not const;
@@ -27,11 +28,11 @@
 
 /* The version of this header and of its library: ten thousand times the major, a hundred times the minor number, and the patch. The major
  * number changes when a program that was built against an older header could be misled, the minor number when calls are added. */
-#define LKS_VERSION 20000
+#define LKS_VERSION 20100
 
 /* The refusals of frames, */
 #define LKS_TOO_LARGE 11  /* a data word of 2^48 or more */
-#define LKS_LENGTH 12     /* a length that does not fit, or is not divisible by eight where numbers are meant */
+#define LKS_LENGTH 12     /* a length that does not fit, or is not divisible by eight where numbers are meant, or is odd in pairs */
 #define LKS_NO_WORD 13    /* no code word within two flips */
 #define LKS_RUN_BROKEN 14 /* the code word within two flips has a wrong run bit */
 /* and of captures, which have 12 too. */
@@ -95,6 +96,22 @@ uint64_t lks_frames_make(const uint8_t *data, size_t data_len, uint8_t *frames, 
  *       frames_len / 8 */
 uint64_t lks_frames_read(const uint8_t *frames, size_t frames_len, uint8_t *data, size_t data_len, uint8_t *verdicts,
                          size_t verdicts_len, uint8_t *checks, size_t checks_len);
+
+/* Lays the frames of a list out in pairs, the first with the second, the third with the fourth and so on, and writes the first frames_len
+ * bytes of words. Any 64 bits are a frame here, lawful or not.
+ * Returns 0, or
+ *   12  frames_len or words_len is not divisible by eight, the number of frames is odd, or words_len is below frames_len */
+uint64_t lks_pairs_make(const uint8_t *frames, size_t frames_len, uint8_t *words, size_t words_len);
+
+/* Takes each pair of a list of words apart and reads its two frames, each by itself. For each frame, in the order in which lks_pairs_make
+ * takes them, it writes its data word and one verdict byte, the number of flips corrected (0, 1, 2) or 13 or 14; of a frame with 13 or 14
+ * the data word is 0. A frame that cannot be read stops neither the other one of its pair nor the list, and the call does not refuse for it.
+ * Where the frames sent were lawful and all flips of a pair lie within 4 neighbouring positions of its 128, both data words come back.
+ * Writes the first words_len bytes of data, and the first words_len / 8 of verdicts.
+ * Returns 0, or
+ *   12  words_len or data_len is not divisible by eight, the number of words is odd, data_len is below words_len, or verdicts_len is below
+ *       words_len / 8 */
+uint64_t lks_pairs_read(const uint8_t *words, size_t words_len, uint8_t *data, size_t data_len, uint8_t *verdicts, size_t verdicts_len);
 
 /* Writes the capture file of a lane, its frames and its notes to the start of file.
  * Returns the length of the file, frames_len + notes_len + 24. A number below 24 is a refusal:

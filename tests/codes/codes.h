@@ -3,7 +3,8 @@
 #define CODES_H
 #include "../plain.h"
 
-enum { HIER_MAKE = 1, HIER_READ, DAP_MAKE, DAP_READ, BUS, START, FILL, FEED, TALLY, LANE, CAPTURE_WRITE, CAPTURE_READ, SALVAGE, KINDS };
+enum { HIER_MAKE = 1, HIER_READ, DAP_MAKE, DAP_READ, BUS, START, FILL, FEED, TALLY, LANE, CAPTURE_WRITE, CAPTURE_READ, SALVAGE, PAIR,
+       PAIRS_MAKE, PAIRS_READ, KINDS };
 
 // how many values a head has, the length of a name, where each number of a head stands, and the length of a head
 enum { VALUE_COUNT = 10, NAME = 16, KIND = NAME, TAKEN = KIND + 8, LENT = TAKEN + 8, SPLIT = LENT + 8, VALUES = SPLIT + 8 };

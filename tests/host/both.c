@@ -13,14 +13,14 @@ static struct figures figures;
 void same(const char *what, uint64_t of, uint64_t archive, uint64_t second)
 {
     if (archive != second)
-        fail("compare: %s of %016llx: archive %llx, independent %llx", what, (shown)of, (shown)archive, (shown)second);
+        fail("%s of %016llx: archive %llx, independent %llx", what, (shown)of, (shown)archive, (shown)second);
 }
 
 static void untouched(const char *what, const uint8_t *bytes, size_t n)
 {
     for (size_t i = 0; i < n; i++)
         if (bytes[i] != BLANK)
-            fail("compare: %s: a byte is written that must not be", what);
+            fail("%s: a byte is written that must not be", what);
 }
 
 static struct reading archive_read(uint64_t frame)

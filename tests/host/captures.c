@@ -6,6 +6,8 @@
 
 enum { FRAMES_ROOM = 8 * LKS_MOST_FRAMES, ANSWER = LKS_CAPTURE_ANSWER_BYTES, GOOD_TAG = 0x4C434150 };
 
+static struct lent frames, notes, file, answer;
+struct lent *const every[] = {&frames, &notes, &file, &answer, NULL};
 static const uint64_t top = ~(uint64_t)0, eighth = (uint64_t)1 << 61; // eight times 2^61 is 2^64
 static uint8_t stuff[ROOM];                                           // frames and notes
 
@@ -182,16 +184,15 @@ int main(void)
     uint64_t state = 21;
     for (size_t i = 0; i < ROOM; i++)
         stuff[i] = (uint8_t)random64(&state);
-    for (size_t turn = 0; turn < 16; turn++) {
-        turn_over(turn / 2, turn % 2 ? 255 : 0);
-        null_when_empty = turn / 2 % 2;
+    for (size_t turn = 0; turn < TURNS; turn++) {
+        turn_over(turn);
         small_writes();
         large_writes();
         all_reads();
         changed();
         back(turn / 2);
     }
-    turn_over(0, 0);
+    turn_over(0);
     printf("captures: %lu calls answered as due and left every other byte alone; refused with 12 %lu, 21 %lu, 22 %lu, 23 %lu\n", calls,
            refusals[12], refusals[21], refusals[22], refusals[23]);
     return 0;

@@ -1,6 +1,7 @@
-// Calls the four entries as a customer would: each refusal, each length around a boundary, NULL with length 0, buffers at any address.
-// Every buffer stands between guard bytes, and after each call the whole of it, guards, inputs and what must not be written with it, is
-// held to what is due. All of it runs over two fills, one the other's complement, so that no stray byte can hide behind an equal one.
+// Calls the entries on frames and on pairs as a customer would; those on frames with each refusal, each length around a boundary, NULL with
+// length 0, buffers at any address. Every buffer stands between guard bytes, and after each call the whole of it, guards, inputs and what
+// must not be written with it, is held to what is due. All of it runs over two fills, one the other's complement, so that no stray byte can
+// hide behind an equal one.
 #include "../plain.h"
 #include "../../include/lakshrumov.h"
 
@@ -153,6 +154,25 @@ static void frames_read_all(void)
             frames_read(n * 8, n * 8, n, n, from);
 }
 
+// Data 0 beside all ones, through the line and back: there a burst turns the first four positions over.
+static void pairs(void)
+{
+    static const uint64_t words[2] = {0x5555555595555555u, 0x655555555A666966u};
+    all_fresh();
+    for (size_t i = 0; i < 2; i++) {
+        give(&in, i * 8, rows[i * 3].frame);
+        owe(&out, i * 8, words[i]);
+    }
+    settle("lks_pairs_make", lks_pairs_make(lend(&in, 16), 16, lend(&out, 16), 16), 0);
+    all_fresh();
+    for (size_t i = 0; i < 2; i++) {
+        give(&in, i * 8, i ? words[i] : words[i] ^ (uint64_t)15 << 60);
+        owe(&out, i * 8, rows[i * 3].data);
+        out2.due[EDGE + shift + i] = 2;
+    }
+    settle("lks_pairs_read", lks_pairs_read(lend(&in, 16), 16, lend(&out, 16), 16, lend(&out2, 2), 2), 0);
+}
+
 int main(void)
 {
     for (int turn = 0; turn < 32; turn++) {
@@ -163,6 +183,7 @@ int main(void)
         frame_read();
         frames_make_all();
         frames_read_all();
+        pairs();
     }
     printf("customer: %lu calls answered as due and left every other byte alone; refused with 11 %lu, 12 %lu, 13 %lu, 14 %lu\n", calls,
            refusals[11], refusals[12], refusals[13], refusals[14]);

@@ -3,8 +3,8 @@
 #include "../plain.h"
 #include "../../include/lakshrumov.h"
 
-#if LKS_VERSION / 10000 != 2
-#error this test is of major version 2
+#if LKS_VERSION / 10000 != 2 || LKS_VERSION < 20100
+#error this test is of major version 2, from 2.1 on
 #endif
 
 static uint8_t room[8 * LKS_MOST_FRAMES];
@@ -13,6 +13,8 @@ static uint64_t (*frame_make)(uint64_t) = lks_frame_make;
 static uint64_t (*frame_read)(uint64_t, uint8_t *, size_t) = lks_frame_read;
 static uint64_t (*frames_make)(const uint8_t *, size_t, uint8_t *, size_t) = lks_frames_make;
 static uint64_t (*frames_read)(const uint8_t *, size_t, uint8_t *, size_t, uint8_t *, size_t, uint8_t *, size_t) = lks_frames_read;
+static uint64_t (*pairs_make)(const uint8_t *, size_t, uint8_t *, size_t) = lks_pairs_make;
+static uint64_t (*pairs_read)(const uint8_t *, size_t, uint8_t *, size_t, uint8_t *, size_t) = lks_pairs_read;
 static uint64_t (*capture_write)(uint32_t, const uint8_t *, size_t, const uint8_t *, size_t, uint8_t *, size_t) = lks_capture_write;
 static uint64_t (*capture_head)(const uint8_t *, size_t, uint8_t *, size_t) = lks_capture_head;
 static uint64_t (*capture_read)(const uint8_t *, size_t, uint8_t *, size_t, uint8_t *, size_t) = lks_capture_read;
@@ -30,6 +32,12 @@ int main()
         fail("header: flips of frames read from C++");
     if (frame_read(number_at(frames + 8), answer, sizeof answer) != 0 || number_at(answer) != 0 || answer[12] != 2)
         fail("header: a frame read from C++");
+    uint8_t words[16];
+    if (pairs_make(frames, 16, words, 16) != 0)
+        fail("header: a pair made from C++");
+    words[0] ^= 0xC0; // position 0 of both
+    if (pairs_read(words, 16, back, 16, verdicts, 2) != 0 || verdicts[0] != 1 || number_at(back) != 1 || verdicts[1] != LKS_NO_WORD)
+        fail("header: a pair read from C++");
     uint8_t file[16 + 1 + LKS_TRAILER_BYTES], label[LKS_CAPTURE_ANSWER_BYTES], again[LKS_CAPTURE_ANSWER_BYTES];
     if (capture_write(7, frames, 16, data, 1, file, sizeof file) != sizeof file)
         fail("header: a capture written from C++");
@@ -39,6 +47,6 @@ int main()
         fail("header: a capture read from C++");
     if (memcmp(label, again, sizeof label) != 0 || number_at(label) != (uint64_t)7 << 32 || number_at(label + 4) != 2)
         fail("header: lane and count of a capture from C++");
-    printf("header: the seven entries called from C++, 2 words there and back, and their frames through a capture\n");
+    printf("header: the nine entries called from C++, 2 words there and back, and their frames through a pair and a capture\n");
     return 0;
 }

@@ -1,9 +1,25 @@
-// An independent maker and reader of frames, written from the paper's page and from the algebra of source 001: the code's words are
-// the polynomials that vanish at a and a^3, a a root of x^6 + x + 1 in GF(64). No table of any kind, nothing of the proved crates, and
-// no constant of the code but the two factors of g.
+// An independent maker and reader of frames and of pairs, written from the paper's page and from the algebra of source 001: the code's
+// words are the polynomials that vanish at a and a^3, a a root of x^6 + x + 1 in GF(64). No table of any kind, nothing of the proved
+// crates, and no constant of the code but the two factors of g.
 #include "independent.h"
 
 enum { PHI1 = 67, PHI3 = 87 }; // (17): x^6 + x + 1 and x^6 + x^4 + x^2 + x + 1, the coefficient of x^k as bit k
+
+// ---- a number's bits, the highest first
+
+static void list_bits(uint64_t number, int bits[64])
+{
+    for (int i = 63; i >= 0; i--, number /= 2)
+        bits[i] = (int)(number % 2);
+}
+
+static uint64_t number_of(const int *bits, int n)
+{
+    uint64_t number = 0;
+    for (int i = 0; i < n; i++)
+        number = number * 2 + (uint64_t)bits[i];
+    return number;
+}
 
 // ---- GF(64): a number below 64 is a sum of powers of a below the sixth
 
@@ -89,8 +105,7 @@ struct reading independent_read(uint64_t frame)
 {
     int bits[64];
     struct reading r = refused(0);
-    for (int i = 0; i < 64; i++)
-        bits[i] = (int)(frame >> (63 - i) & 1);
+    list_bits(frame, bits);
     int flips = locate(syndrome1(bits), syndrome3(bits), r.place);
     if (flips < 0)
         return refused(13);
@@ -138,10 +153,7 @@ uint64_t independent_make(uint64_t data)
         return 11;
     for (int i = 0; i < 51; i++)
         bits[i] = is_run_bit(i) ? !bits[i - 1] : (int)(data >> (47 - taken++) & 1);
-    uint64_t frame = 0;
-    for (int i = 0; i < 51; i++)
-        frame = frame * 2 + (uint64_t)bits[i];
-    frame = frame << 12 | check_bits(bits);
+    uint64_t frame = number_of(bits, 51) << 12 | check_bits(bits);
     return frame * 2 + (frame % 2 == 0);
 }
 
@@ -152,4 +164,35 @@ uint64_t independent_places(struct reading r)
         if (r.place[i] < 63)
             ones |= spot((int)r.place[i]);
     return ones;
+}
+
+// ---- pairs: the line's 128 bits one by one, A0 B0 A1 B1 and so on
+
+void independent_line(const uint64_t words[2], int line[128])
+{
+    list_bits(words[0], line);
+    list_bits(words[1], line + 64);
+}
+
+void independent_join(const uint64_t frames[2], uint64_t words[2])
+{
+    int a[64], b[64], line[128], sent = 0;
+    list_bits(frames[0], a);
+    list_bits(frames[1], b);
+    for (int i = 0; i < 64; i++) {
+        line[sent++] = a[i];
+        line[sent++] = b[i];
+    }
+    words[0] = number_of(line, 64);
+    words[1] = number_of(line + 64, 64);
+}
+
+void independent_part(const uint64_t words[2], uint64_t frames[2])
+{
+    int line[128], bits[2][64];
+    independent_line(words, line);
+    for (int i = 0; i < 128; i++)
+        bits[i % 2][i / 2] = line[i];
+    frames[0] = number_of(bits[0], 64);
+    frames[1] = number_of(bits[1], 64);
 }

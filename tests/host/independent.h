@@ -1,4 +1,4 @@
-// The second program's maker and reader of frames: see independent.c.
+// The second program's maker and reader of frames and of pairs: see independent.c.
 #ifndef INDEPENDENT_H
 #define INDEPENDENT_H
 #include "../plain.h"
@@ -15,4 +15,9 @@ struct reading {
 uint64_t independent_make(uint64_t data); // the frame, or 11
 struct reading independent_read(uint64_t frame);
 uint64_t independent_places(struct reading r); // ones, laid like a frame, at its flips and, where the pad is wrong, at the pad
+
+// A pair of frames, A first, as the two words of its 128 line bits, and back; and these bits in the order of the line.
+void independent_join(const uint64_t frames[2], uint64_t words[2]);
+void independent_part(const uint64_t words[2], uint64_t frames[2]);
+void independent_line(const uint64_t words[2], int line[128]);
 #endif

@@ -1,5 +1,5 @@
-// Buffers of the capture calls between guard bytes. After each call every buffer is held to what is due: guards, inputs and what must not
-// be written with it. Over two fills, one the other's complement, no stray byte can hide behind an equal one.
+// Lent buffers between guard bytes. After each call every buffer is held to what is due: guards, inputs and what must not be written with
+// it. Over two fills, one the other's complement, no stray byte can hide behind an equal one.
 #ifndef LENT_H
 #define LENT_H
 #include "../plain.h"
@@ -7,14 +7,15 @@
 #define SIZE(list) (sizeof list / sizeof list[0])
 
 enum { EDGE = 64, ROOM = 66000, WHOLE = EDGE + 8 + ROOM + EDGE };
+enum { TURNS = 16 }; // of turn_over: each shift of a buffer, over each fill
 
-static struct lent {
+struct lent {
     uint8_t now[WHOLE], due[WHOLE];
     size_t shift; // how far it is off its alignment
     size_t len;   // as the present call was lent it
     size_t used;  // so many of its first bytes may differ from the fill
-} frames, notes, file, answer;
-static struct lent *const every[] = {&frames, &notes, &file, &answer};
+};
+extern struct lent *const every[]; // the program's buffers; NULL ends them
 
 static uint8_t fill;        // 0 or 255
 static int null_when_empty; // NULL for a length of 0, else an address
@@ -54,10 +55,10 @@ static inline void give(struct lent *l, size_t at, const uint8_t *bytes, size_t 
 static inline void settle(const char *call, uint64_t got, uint64_t want)
 {
     if (got != want)
-        fail("captures: %s returned %llu and not %llu", call, (shown)got, (shown)want);
-    for (size_t i = 0; i < SIZE(every); i++) {
+        fail("%s returned %llu and not %llu", call, (shown)got, (shown)want);
+    for (size_t i = 0; every[i]; i++) {
         if (memcmp(every[i]->now, every[i]->due, EDGE + every[i]->shift + every[i]->len + EDGE))
-            fail("captures: %s left other bytes than are due (answer %llu)", call, (shown)got);
+            fail("%s left other bytes than are due (answer %llu)", call, (shown)got);
         every[i]->len = 0;
     }
     calls++;
@@ -66,13 +67,14 @@ static inline void settle(const char *call, uint64_t got, uint64_t want)
 }
 
 // New shifts and a new fill, after a look at all that is farther from the buffers than the guards.
-static inline void turn_over(size_t shift, uint8_t new_fill)
+static inline void turn_over(size_t turn)
 {
-    fill = new_fill;
-    for (size_t i = 0; i < SIZE(every); i++) {
+    fill = turn % 2 ? 255 : 0;
+    null_when_empty = turn / 2 % 2;
+    for (size_t i = 0; every[i]; i++) {
         if (memcmp(every[i]->now, every[i]->due, WHOLE))
-            fail("captures: a byte far from every buffer is written");
-        every[i]->shift = (shift + 3 * i) % 8;
+            fail("a byte far from every buffer is written");
+        every[i]->shift = (turn / 2 + 3 * i) % 8;
         every[i]->used = 0;
         paint(every[i], 0, WHOLE);
     }

@@ -80,19 +80,39 @@ static void single(void)
     row("lks_frame_read");
 }
 
-static const size_t lengths[] = {0, 8, 15, 16, 8 * MOST}; // 15: refused
+static const size_t lengths[] = {0, 8, 15, 16, 8 * MOST}; // 15: refused, and 8 in pairs
 
 static void make_list(size_t len)
 {
     called((void (*)(void))lks_frames_make, (uint64_t[ARGUMENTS]){(uint64_t)in, len, (uint64_t)out, sizeof out});
 }
 
+static void hold_answer(const char *name, uint64_t answer, int is_refused)
+{
+    if (answer != (is_refused ? LKS_LENGTH : 0))
+        fail("stack: %s returned %llu", name, (shown)answer);
+}
+
 static void read_list(size_t len)
 {
     uint64_t answer = called((void (*)(void))lks_frames_read, (uint64_t[ARGUMENTS]){(uint64_t)in, len, (uint64_t)out, sizeof out,
                                                               (uint64_t)verdicts, sizeof verdicts, (uint64_t)checks, sizeof checks});
-    if (answer != (len % 8 ? LKS_LENGTH : 0))
-        fail("stack: lks_frames_read returned %llu", (shown)answer);
+    hold_answer("lks_frames_read", answer, len % 8 != 0);
+}
+
+static void make_pairs(size_t len)
+{
+    uint64_t answer = called((void (*)(void))lks_pairs_make, (uint64_t[ARGUMENTS]){(uint64_t)in, len, (uint64_t)out, sizeof out});
+    hold_answer("lks_pairs_make", answer, len % 16 != 0);
+}
+
+static void read_pairs(size_t len)
+{
+    static uint8_t words[sizeof in];
+    lks_pairs_make(in, sizeof in, words, sizeof words);
+    uint64_t answer = called((void (*)(void))lks_pairs_read, (uint64_t[ARGUMENTS]){(uint64_t)words, len, (uint64_t)out, sizeof out,
+                                                             (uint64_t)verdicts, sizeof verdicts});
+    hold_answer("lks_pairs_read", answer, len % 16 != 0);
 }
 
 // Lists of `kinds` numbers in turn, from each of them on.
@@ -158,6 +178,10 @@ int main(void)
     row("lks_frames_make");
     lists(some_frames, FRAMES, read_list);
     row("lks_frames_read");
+    lists(some_frames, FRAMES, make_pairs);
+    row("lks_pairs_make");
+    lists(some_frames, FRAMES, read_pairs);
+    row("lks_pairs_read");
     captures("lks_capture_write", write_capture);
     captures("lks_capture_head", head_capture);
     captures("lks_capture_read", read_capture);

@@ -34,7 +34,7 @@ fn write_bytes(head: &[u8], frames: &[u8], notes: &[u8]) {
 }
 
 // The whole eights of the bytes, as numbers; 0 behind them.
-fn numbers(bytes: &[u8], list: &mut [u64]) {
+pub(crate) fn numbers(bytes: &[u8], list: &mut [u64]) {
     let mut i = 0;
     while i < list.len() {
         list[i] = octets::number(bytes, i);

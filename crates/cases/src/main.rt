@@ -20,10 +20,16 @@
 //                   its notes
 // 13 salvage        lengths of the lists a, altered, b, places, and c, refused; the file is what is lent. Every byte of file and lists is
 //                   shown where d is 1
+// 14 pair           a and b, joined and parted
+// 15 pairs made     lengths of the outputs a, of numbers, and b, of bytes; the frames are the first part: made from numbers, its whole
+//                   eights, and from its bytes. Every byte of the outputs is shown where c is 1
+// 16 pairs read     lengths of the lists a, data as numbers, b, data as bytes, and c, verdicts; the words are the first part: read as
+//                   numbers and as bytes. Every byte of the lists is shown where d is 1
 mod blocks;
 mod captures;
 mod copies;
 mod fields;
+mod pairs;
 mod patterns;
 mod salvages;
 mod say;
@@ -47,6 +53,9 @@ fn on_lists<'a>(kind: u64, head: &[u8], first: &'a [u8], second: &'a [u8]) {
         9 => tallies::add(head, first, second),
         11 => captures::write(head, first, second),
         12 => captures::read(head, first),
+        14 => pairs::both(head),
+        15 => pairs::make(head, first),
+        16 => pairs::read(head, first),
         _ => tallies::count(head, first),
     }
 }

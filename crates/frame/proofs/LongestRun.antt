@@ -117,6 +117,15 @@ run-bound fs good s n r = by (decLe n longestRun)
     by (no l) = absurd (too-long fs good s n r (omega arith))
 
 -- the frame of data 0000FFFF0000: its positions 16 to 32 are ones
+pub example-frame : FrameOf 0x0000FFFF0000 0x0000FFFF80003F96
+unfolding rem dataOf
+example-frame =
+    record {
+      lawful = record { code = is-divisible 51 0x00007FFFC0001FCB (lit< tt) refl; runs = record { at-16 = refl; at-33 = refl; at-50 = refl } };
+      carries = refl;
+      pad = refl;
+    }
+
 abbrev example : List ℕ
 example = 0x0000FFFF80003F96 ∷ []
 
@@ -124,18 +133,11 @@ one? : ℕ → Bool
 one? j = eqb (lineBit example (16 + j)) 1
 
 pub run-reached : RunReached
-unfolding one? rem dataOf
+unfolding one?
 run-reached = (example, lawful, 16, (lit≤ tt, λ j h. eqb→eq (lineBit example (16 + j)) 1 (below one? longestRun tt j h)))
   where
     lawful : (i : ℕ) → i < 1 → (d : ℕ) × FrameOf d (getD example i 0)
-    lawful zero h = (
-      0x0000FFFF0000,
-      record {
-        lawful = record { code = is-divisible 51 0x00007FFFC0001FCB (lit< tt) refl; runs = record { at-16 = refl; at-33 = refl; at-50 = refl } };
-        carries = refl;
-        pad = refl;
-      },
-    )
+    lawful zero h = (0x0000FFFF0000, example-frame)
     lawful (suc i) h = absurd (not-suc-le-zero (le-of-suc-le-suc h))
 
 pub last-bit-run : LastBitRun

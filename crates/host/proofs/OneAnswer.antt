@@ -5,6 +5,8 @@
 -- │ one-out       │ of `lks_frame_read`                                            │
 -- │ one-made      │ of `lks_frames_make`                                           │
 -- │ one-read      │ of `lks_frames_read`                                           │
+-- │ one-paired    │ of `lks_pairs_make`                                            │
+-- │ one-parted    │ of `lks_pairs_read`                                            │
 -- └───────────────┴────────────────────────────────────────────────────────────────┘
 use mathlib.Core.Path.{_≡_, sym, ap, ap₂, _∙_, subst}
 use mathlib.Core.Logic.{inl, inr}
@@ -18,8 +20,9 @@ use Rattle.maker.specs.Makes.{Makes}
 use Rattle.decoding.proofs.Demands.{one-answer}
 use Rattle.reader.proofs.OneAnswer.{one-read-bytes}
 use Rattle.maker.proofs.OneAnswer.{one-made-answer, one-made-bytes}
+use Rattle.pair.proofs.OneAnswer.{one-made-pair-bytes, one-read-pair-bytes}
 use Rattle.host.specs.Entries.{returned, laid}
-use Rattle.host.specs.Claims.{OneCode, NotMistaken, OneOut, OneMade, OneRead}
+use Rattle.host.specs.Claims.{OneCode, NotMistaken, OneOut, OneMade, OneRead, OnePaired, OneParted}
 
 pub one-code : OneCode
 one-code d m n p q = p .code ∙ ap returned (one-made-answer d (p .made) (q .made) (p .owed) (q .owed)) ∙ sym (q .code)
@@ -43,3 +46,11 @@ one-made ds o o′ m n w p q =
 pub one-read : OneRead
 one-read fs d d′ v v′ c c′ m n h x y z p q =
     let r = one-read-bytes fs d d′ v v′ c c′ (numbered m) (numbered n) h x y z p q in (numbered-one m n (r .0), r .1, r .2, r .3)
+
+pub one-paired : OnePaired
+one-paired fs o o′ m n w p q =
+    let r = one-made-pair-bytes fs o o′ (numbered m) (numbered n) w p q in (numbered-one m n (r .0), r .1)
+
+pub one-parted : OneParted
+one-parted ws d d′ v v′ m n x y p q =
+    let r = one-read-pair-bytes ws d d′ v v′ (numbered m) (numbered n) x y p q in (numbered-one m n (r .0), r .1, r .2)

@@ -5,6 +5,8 @@
 -- │ OneOut      │ no second number or buffer meets that of `lks_frame_read`        │
 -- │ OneMade     │ nor a second number or list that of `lks_frames_make`            │
 -- │ OneRead     │ nor that of `lks_frames_read`                                    │
+-- │ OnePaired   │ nor that of `lks_pairs_make`                                     │
+-- │ OneParted   │ nor that of `lks_pairs_read`                                     │
 -- │ OneFile     │ nor that of `lks_capture_write`                                  │
 -- │ NoRefusal   │ a length it returns is no refusal: it is at least 24             │
 -- │ OneLabel    │ no second number or buffer meets that of `lks_capture_head`      │
@@ -18,6 +20,7 @@ use Rattle.laws.specs.Bits.{Octets}
 use Rattle.laws.specs.Lent.{Lent}
 use Rattle.maker.specs.Lists.{MakesBytes}
 use Rattle.reader.specs.Lists.{ReadsBytes}
+use Rattle.pair.specs.Calls.{MakesPairsBytes, ReadsPairsBytes}
 use Rattle.host.specs.Entries.{MakesCode, ReadsOut}
 use Rattle.host.specs.Captures.{WritesFile, ReadsLabel, ReadsFile}
 
@@ -40,6 +43,14 @@ OneRead = (fs : List ℕ) (d d′ v v′ c c′ : Lent) (m n : ℕ) → Octets f
     → d .was ≡ d′ .was → v .was ≡ v′ .was → c .was ≡ c′ .was
     → ReadsBytes fs d v c (numbered m) → ReadsBytes fs d′ v′ c′ (numbered n)
     → (m ≡ n) × (d .is ≡ d′ .is) × (v .is ≡ v′ .is) × (c .is ≡ c′ .is)
+
+abbrev pub OnePaired : Type 0
+OnePaired = (fs : List ℕ) (o o′ : Lent) (m n : ℕ) → o .was ≡ o′ .was → MakesPairsBytes fs o (numbered m) → MakesPairsBytes fs o′ (numbered n)
+    → (m ≡ n) × (o .is ≡ o′ .is)
+
+abbrev pub OneParted : Type 0
+OneParted = (ws : List ℕ) (d d′ v v′ : Lent) (m n : ℕ) → d .was ≡ d′ .was → v .was ≡ v′ .was
+    → ReadsPairsBytes ws d v (numbered m) → ReadsPairsBytes ws d′ v′ (numbered n) → (m ≡ n) × (d .is ≡ d′ .is) × (v .is ≡ v′ .is)
 
 abbrev pub OneFile : Type 0
 OneFile = (l : ℕ) (bs ns : List ℕ) (o o′ : Lent) (m n : ℕ) → o .was ≡ o′ .was → WritesFile l bs ns o m → WritesFile l bs ns o′ n

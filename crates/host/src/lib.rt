@@ -9,6 +9,7 @@ ghost use Rattle.reader.specs.Answers.{placesOf, found};
 ghost use Rattle.maker.specs.Answers.{answer};
 ghost use Rattle.maker.specs.Lists.{MakesBytes};
 ghost use Rattle.reader.specs.Lists.{ReadsBytes};
+ghost use Rattle.pair.specs.Calls.{MakesPairsBytes, ReadsPairsBytes};
 ghost use Rattle.host.specs.Entries.{returned, MakesCode, Small, answerBytes, noPlace, laidOut, ReadsOut};
 
 mod captures;
@@ -138,4 +139,19 @@ pub extern "C" fn lks_frames_read(
         (checks .entry to checks .exit) (numbered n) ⌝ }
 {
     wide(paper::number_of(reader::read_bytes(frames, data, verdicts, checks)))
+}
+
+#[no_mangle]
+pub extern "C" fn lks_pairs_make(frames: &[u8], words: &mut [u8]) -> u64
+    ensures { λ n. ⌜ MakesPairsBytes (now (frames .entry)) (words .entry to words .exit) (numbered n) ⌝ }
+{
+    wide(paper::number_of(pair::make_pairs_bytes(frames, words)))
+}
+
+#[no_mangle]
+pub extern "C" fn lks_pairs_read(words: &[u8], data: &mut [u8], verdicts: &mut [u8]) -> u64
+    ensures { λ n. ⌜ ReadsPairsBytes (now (words .entry)) («data» .entry to «data» .exit) (verdicts .entry to verdicts .exit)
+        (numbered n) ⌝ }
+{
+    wide(paper::number_of(pair::read_pairs_bytes(words, data, verdicts)))
 }

@@ -1,7 +1,5 @@
 -- A file whose first frames have been written anew.
 -- ┌───────────────┬────────────────────────────────────────────────────────────────┐
--- │ number-past   │ the number behind those that were written is the one that was  │
--- │               │ there                                                          │
 -- │ stored-same   │ what is there, stored, changes nothing                         │
 -- │ octets-over   │ bytes over bytes are bytes                                     │
 -- │ Fresh         │ a file after some frames, o₀ as it came                        │
@@ -9,47 +7,25 @@
 -- │ fresh-more    │ after one more, rewritten                                      │
 -- └───────────────┴────────────────────────────────────────────────────────────────┘
 use mathlib.Core.Path.{_≡_, refl, sym, ap, ap₂, _∙_, subst}
-use mathlib.Core.Bool.{Bool, true, false, cond}
+use mathlib.Core.Bool.{Bool, cond}
 use mathlib.Core.List.{List, [], _∷_, _++_}
-use Prim.Native.Nat.{ℕ, zero, suc, _+_, _*_, _/_, _%_, _<_, _≤_}
+use Prim.Native.Nat.{ℕ, zero, suc, _+_, _*_, _/_, _<_}
 use native.Mathlib.Decide.{ℕ-discrete}
-use native.Mathlib.Nat.{add-zero, zero-add, zero-lt-suc}
+use native.Mathlib.Nat.{zero-add, zero-lt-suc}
 use native.Mathlib.Omega.{arith}
 use borrow.Author.Tests.{lt-ltb, eq-eqb, ne-eqb}
 use lib.Bits.{bitXor, xor-zero-r}
-use lib.Dec.{ltb, eqb}
-use lib.ListN.{length, getD, take, drop, take-append-drop, length-append, length-drop}
-use lib.Seq.{length-take-le, drop-drop}
+use lib.ListN.{length, getD, take, drop, take-append-drop}
+use lib.Seq.{drop-drop}
 use Rattle.laws.specs.Bits.{Octets}
 use Rattle.laws.specs.Lent.{_over_}
-use Rattle.laws.proofs.Writing.{over-none, over-length, over-fits}
+use Rattle.laws.proofs.Writing.{over-none, over-length}
 use Rattle.radix.specs.Octets.{joined, numbersOf, eight, bytesOf, stored}
 use Rattle.radix.proofs.Digits.{in-joined}
-use Rattle.radix.proofs.Joined.{joined-second, numbers-at}
-use Rattle.radix.proofs.Stored.{length-bytes, bytes-are}
-use Rattle.radix.proofs.Writing.{bytes-more}
+use Rattle.radix.proofs.Joined.{numbers-at}
+use Rattle.radix.proofs.Stored.{bytes-are}
+use Rattle.radix.proofs.Writing.{bytes-more, number-past}
 use Rattle.salvage.specs.Parts.{rewritten}
-
--- bytes from a place on, whatever stands before it
-joined-drop : (a o : List ℕ) (n : ℕ) → length a ≡ n → n ≤ length o → joined 8 (a ++ drop n o) n ≡ joined 8 o n
-joined-drop a o n e h =
-    let t : length (take n o) ≡ n = length-take-le n o h in
-    ap (joined 8 (a ++ drop n o)) (sym (add-zero n) ∙ ap (λ (k : ℕ). k + 0) (sym e))
-    ∙ joined-second 8 a (drop n o) 0
-    ∙ sym (joined-second 8 (take n o) (drop n o) 0)
-    ∙ ap₂ (λ (l : List ℕ) (k : ℕ). joined 8 l k) (take-append-drop n o) (ap (λ (k : ℕ). k + 0) t ∙ add-zero n)
-
-pub number-past : (xs o : List ℕ) (i : ℕ) → length xs ≡ i → i < length o / 8 → getD (numbersOf (bytesOf xs over o)) i 0 ≡ getD (numbersOf o) i 0
-number-past xs o i e h =
-    let p : List ℕ = bytesOf xs over o in
-    let l : length p ≡ length o = over-length (bytesOf xs) o in
-    let b : length (bytesOf xs) ≡ i * 8 = length-bytes xs ∙ ap (λ (k : ℕ). k * 8) e in
-    numbers-at (length p / 8) p 0 i (omega arith)
-    ∙ ap (joined 8 p) (zero-add (i * 8))
-    ∙ ap (λ (q : List ℕ). joined 8 q (i * 8)) (over-fits (bytesOf xs) o (omega arith) ∙ ap (λ (k : ℕ). bytesOf xs ++ drop k o) b)
-    ∙ joined-drop (bytesOf xs) o (i * 8) b (omega arith)
-    ∙ ap (joined 8 o) (sym (zero-add (i * 8)))
-    ∙ sym (numbers-at (length o / 8) o 0 i h)
 
 pub stored-same : (o : List ℕ) (i : ℕ) → Octets o → i < length o / 8 → stored o i (getD (numbersOf o) i 0) ≡ o
 unfolding eight

@@ -21,10 +21,10 @@ use native.Mathlib.Omega.{arith}
 use lib.Arith.{digits-lt}
 use lib.Pow.{pow-add, mod-pow-add, shr-shr, high, low}
 use lib.ListN.{length, getD, take, length-append}
+use Rattle.laws.proofs.Bits.{bit-mod}
 use Rattle.laws.proofs.Xor.{bit-lt}
 use Rattle.laws.specs.Bits.{bit}
 use Rattle.sequence.specs.Bits.{number, highest, bitsOf}
-use Rattle.sequence.proofs.Numbers.{bit-mod}
 
 pub data Bits : List ℕ → Type 0 where
   none : Bits []

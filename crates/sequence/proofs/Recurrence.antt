@@ -16,11 +16,12 @@ use native.Mathlib.Nat.{not-suc-le-zero, mod-lt, zero-mod, le-of-lt, zero-add, a
 use native.Mathlib.Omega.{arith}
 use lib.ListN.{getD}
 use lib.Pow.{pow-pos, shr-lt, split}
+use Rattle.laws.proofs.Bits.{zero-bit, bit-mod, bit-above}
 use Rattle.laws.proofs.Xor.{bit-lt}
 use Rattle.laws.specs.Bits.{bit}
 use Rattle.sequence.specs.Sequence.{Follows, nextBit, step, onward, nextBits}
 use Rattle.sequence.specs.Claims.{Begins, OneSequence, SomeSequence}
-use Rattle.sequence.proofs.Numbers.{below-or, zero-bit, bit-mod, bit-above, mod-digit}
+use Rattle.sequence.proofs.Numbers.{below-or, mod-digit}
 use Rattle.sequence.proofs.Steps.{onward-suc, onward-add, onward-lt, bit-back}
 
 module _ (L T : ℕ) (P : 0 < T) (Q : T ≤ L) (b c : ℕ → ℕ) (fb : Follows L T b) (fc : Follows L T c) (first : (n : ℕ) → n < L → b n ≡ c n) where

@@ -17,11 +17,12 @@ use lib.Pow.{pow-pos, shr-shr, low}
 use lib.Bits.{bitXor}
 use lib.ListN.{length, take}
 use lib.Seq.{take-at}
+use Rattle.laws.proofs.Bits.{bit-mod, bit-above, xor-bit}
 use Rattle.laws.proofs.Xor.{bit-lt, differ-sum}
 use Rattle.laws.specs.Bits.{bit}
 use Rattle.sequence.specs.Bits.{number}
 use Rattle.sequence.specs.Sequence.{nextBit, step, onward, nextBits}
-use Rattle.sequence.proofs.Numbers.{twice-mod, mod-digit, bit-mod, bit-above, xor-bit}
+use Rattle.sequence.proofs.Numbers.{twice-mod, mod-digit}
 use Rattle.sequence.proofs.Digits.{Bits, none, more, number-snoc, number-lt}
 
 module _ (L T : ℕ) where

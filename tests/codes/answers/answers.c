@@ -47,6 +47,16 @@ void print_numbers(const uint8_t *bytes, uint64_t n)
     print(sum);
 }
 
+void print_lent(int all, const uint8_t *bytes, uint64_t n) { (all ? print_bytes : print_list)(bytes, n); }
+
+void print_lent_numbers(int all, const uint8_t *bytes, uint64_t n)
+{
+    if (all)
+        print_bytes(bytes, 8 * n);
+    else
+        print_numbers(bytes, n);
+}
+
 static void (*const kinds[KINDS])(void) = {
     [HIER_MAKE] = hier_make,
     [HIER_READ] = hier_read,
@@ -61,6 +71,9 @@ static void (*const kinds[KINDS])(void) = {
     [CAPTURE_WRITE] = capture_write,
     [CAPTURE_READ] = capture_read,
     [SALVAGE] = salvage,
+    [PAIR] = pair,
+    [PAIRS_MAKE] = pairs_make,
+    [PAIRS_READ] = pairs_read,
 };
 
 // Fills as much as standard input has; answers whether that is all.

@@ -17,8 +17,10 @@ int bit_of(const uint8_t *bytes, uint64_t i);
 void print(uint64_t n);
 void print_refusal(int n);
 void print_bytes(const uint8_t *bytes, uint64_t n);
-void print_list(const uint8_t *bytes, uint64_t n);    // more than 200 by their sum
-void print_numbers(const uint8_t *bytes, uint64_t n); // eight bytes each: their sum
+void print_list(const uint8_t *bytes, uint64_t n);                  // more than 200 by their sum
+void print_numbers(const uint8_t *bytes, uint64_t n);               // eight bytes each: their sum
+void print_lent(int all, const uint8_t *bytes, uint64_t n);         // every byte, or as a list
+void print_lent_numbers(int all, const uint8_t *bytes, uint64_t n); // every byte, or their sum
 
 void hier_make(void);
 void hier_read(void);
@@ -33,4 +35,7 @@ void lane_count(void);
 void capture_write(void);
 void capture_read(void);
 void salvage(void);
+void pair(void);
+void pairs_make(void);
+void pairs_read(void);
 #endif

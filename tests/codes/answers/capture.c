@@ -32,7 +32,7 @@ static void print_written(int refusal)
         put_trailer(out + at, low(0, 4), count, at);
         print(at + TRAILER);
     }
-    (values[2] == 1 ? print_bytes : print_list)(out, held(1, OUTPUT));
+    print_lent(values[2] == 1, out, held(1, OUTPUT));
 }
 
 void capture_write(void)

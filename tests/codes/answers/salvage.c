@@ -48,12 +48,9 @@ static int lend_lists(uint64_t entries)
 static void print_left(void)
 {
     const int all = values[LISTS] == 1;
-    (all ? print_bytes : print_list)(lent.bytes, lent.size);
+    print_lent(all, lent.bytes, lent.size);
     for (int i = 0; i < LISTS; i++)
-        if (all)
-            print_bytes(lists[i].bytes, 8 * lists[i].room);
-        else
-            print_numbers(lists[i].bytes, lists[i].room);
+        print_lent_numbers(all, lists[i].bytes, lists[i].room);
 }
 
 void salvage(void)

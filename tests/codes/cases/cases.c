@@ -16,6 +16,8 @@ static const struct {
     {"lane", lane_cases},       // the same states and orders; pieces of frames with up to three flips, and such about 65,536 bytes
     {"capture", capture_cases}, // files and trailers about each limit, every byte of a small one, lists and outputs of any length
     {"salvage", salvage_cases}, // bent frames, every pattern of two flips, still lines; files that are refused; lists of any length
+    {"pairs", pairs_cases},     // each place of two frames; lists of every length up to 65 and of thousands, to outputs of any length;
+                                // frames read and refused side by side, every burst of up to four, and bursts of five that lose data
 };
 
 struct next next;
@@ -33,6 +35,12 @@ static void out(const uint8_t *bytes, uint64_t n)
 }
 
 void put(uint64_t byte) { next.list[next.size++] = (uint8_t)byte; }
+
+void put_eight(uint64_t number)
+{
+    put_number(next.list + next.size, number);
+    next.size += 8;
+}
 
 void split(void) { next.split = next.size + 1; }
 

@@ -10,6 +10,7 @@ extern struct next {
 } next;
 
 void put(uint64_t byte);                   // into the list
+void put_eight(uint64_t number);           // its bytes, highest first
 void split(void);                          // the first part ends here: it is the whole list, where this is not called
 void add(uint64_t kind, const char *name); // writes the case, with the values of `next`
 #define VALUES_OF(...) memcpy(next.values, (const uint64_t[VALUE_COUNT]){__VA_ARGS__}, sizeof next.values)
@@ -21,12 +22,17 @@ int one_in(uint64_t n);
 uint64_t one_of(const uint64_t *list, uint64_t n);
 #define ONE_OF(...) one_of((const uint64_t[]){__VA_ARGS__}, sizeof((const uint64_t[]){__VA_ARGS__}) / sizeof(uint64_t))
 
-uint64_t some_pattern(void); // mostly one that there is
+uint64_t some_pattern(void);         // mostly one that there is
+uint64_t some_frame(void);           // with up to three flips and any pad; or at chance
+uint64_t frame_of(unsigned verdict); // one that is read so
+void ask_pair(uint64_t a, uint64_t b);
+void read_pairs(const char *name); // all that was put, into lists that just fit
 
 void rows(void);
-void tally_rows(void); // of rows; so are the next two
+void tally_rows(void); // of rows; so are the next three
 void capture_rows(void);
 void salvage_rows(void);
+void pair_rows(void);
 void hier_cases(void);
 void dap_cases(void);
 void bus_cases(void);
@@ -36,4 +42,6 @@ void tally_cases(void);
 void lane_cases(void);
 void capture_cases(void);
 void salvage_cases(void);
+void pairs_cases(void);
+void pair_bursts(void); // of pairs_cases
 #endif

@@ -3,14 +3,8 @@
 
 static void ask_lane(void) { add(LANE, "lane count"); }
 
-static void put_frame(uint64_t frame)
-{
-    for (int i = 56; i >= 0; i -= 8)
-        put(frame >> i);
-}
-
-// A frame with up to three flips, half of them in check bits, and any pad; or one at chance.
-static uint64_t some_frame(void)
+// Half of the flips are in check bits.
+uint64_t some_frame(void)
 {
     uint64_t frame = one_in(8) ? ONE_OF(0, ~0ul, any()) : independent_make(any() >> 16);
     for (uint64_t flips = below(4); flips; flips--)
@@ -18,8 +12,7 @@ static uint64_t some_frame(void)
     return frame;
 }
 
-// One that is read so.
-static uint64_t frame_of(unsigned verdict)
+uint64_t frame_of(unsigned verdict)
 {
     uint64_t frame = some_frame();
     while (independent_read(frame).verdict != verdict)
@@ -29,7 +22,7 @@ static uint64_t frame_of(unsigned verdict)
 
 static void ask_frame(void)
 {
-    put_frame(some_frame());
+    put_eight(some_frame());
     ask_lane();
 }
 
@@ -37,7 +30,7 @@ static void ask_each_verdict(void)
 {
     const unsigned verdicts[] = {0, 1, 2, 13, 14};
     for (int i = 0; i < 5; i++) {
-        put_frame(frame_of(verdicts[i]));
+        put_eight(frame_of(verdicts[i]));
         ask_lane();
     }
 }
@@ -46,7 +39,7 @@ static void ask_each_verdict(void)
 static void ask_frames(const uint8_t *verdicts, uint64_t n)
 {
     for (uint64_t i = 0; i < n; i++)
-        put_frame(frame_of(verdicts[i]));
+        put_eight(frame_of(verdicts[i]));
     for (uint64_t left = below(8); left; left--)
         put(any());
     ask_lane();
@@ -57,7 +50,7 @@ static void ask_places(void)
 {
     const int places[][2] = {{0, 1}, {50, 63}, {51, 63}, {62, 63}, {50, 51}, {51, 62}, {0, 62}};
     for (size_t i = 0; i < sizeof places / sizeof places[0]; i++) {
-        put_frame(independent_make(any() >> 16) ^ spot(places[i][0]) ^ spot(places[i][1]));
+        put_eight(independent_make(any() >> 16) ^ spot(places[i][0]) ^ spot(places[i][1]));
         ask_lane();
     }
 }
@@ -68,7 +61,7 @@ static void about_room(uint64_t frames)
     uint64_t checks = 0, size;
     for (uint64_t i = 0; i < frames; i++) {
         uint64_t frame = some_frame();
-        put_frame(frame);
+        put_eight(frame);
         checks += independent_read(frame).check_flips;
     }
     size = next.size;
@@ -103,7 +96,7 @@ static void still_lines(uint64_t lawful)
     for (uint64_t full = 0; full < 2; full++) {
         const uint64_t before = MOST - frames + full;
         for (uint64_t i = 0; i < frames; i++)
-            put_frame(i == lawful ? independent_make(i) : one_in(2) ? 0 : ~0ul);
+            put_eight(i == lawful ? independent_make(i) : one_in(2) ? 0 : ~0ul);
         VALUES_OF(0, 0, 0, before, 0, 0, 0, before, before);
         ask_lane();
     }
@@ -117,7 +110,7 @@ static void each_long_piece(void)
     for (size_t i = 0; i < sizeof lawful / sizeof lawful[0]; i++)
         still_lines(lawful[i]);
     for (uint64_t i = 0; i < LONGEST / 8; i++)
-        put_frame(some_frame());
+        put_eight(some_frame());
     put(any());
     ask_lane();
     for (uint64_t n = 0; n < 18; n++)

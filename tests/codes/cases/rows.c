@@ -1,5 +1,5 @@
 // What is known from outside: the paper's bench numbers, 000's worked examples, vectors of the patterns, and a row of each refusal; those
-// of the tally, the lane, captures and salvage stand in files of their own.
+// of the tally, the lane, captures, salvage and pairs stand in files of their own.
 #include "../answers/counter.h"
 #include "cases.h"
 
@@ -154,4 +154,5 @@ void rows(void)
     tally_rows();
     capture_rows();
     salvage_rows();
+    pair_rows();
 }

@@ -20,12 +20,6 @@ static void again(uint64_t size, uint64_t altered, uint64_t places, uint64_t ref
     ask("salvage again", altered, places, refused);
 }
 
-static void put_frame(uint64_t frame)
-{
-    put_number(next.list + next.size, frame);
-    next.size += 8;
-}
-
 // None to three flips, of which two at one place are none, and either pad.
 static uint64_t bent(void)
 {
@@ -39,7 +33,7 @@ static uint64_t bent(void)
 static void put_bent(uint64_t bytes, uint64_t often)
 {
     for (; bytes >= 8; bytes -= 8)
-        put_frame(one_in(often) ? bent() : independent_make(any() >> 16));
+        put_eight(one_in(often) ? bent() : independent_make(any() >> 16));
     while (bytes--)
         put(any());
 }
@@ -80,7 +74,7 @@ static void each_pattern(uint64_t frame, void (*each)(uint64_t bent))
 
 static void ask_alone(uint64_t frame)
 {
-    put_frame(frame);
+    put_eight(frame);
     end_file(1, 8);
     ask("salvage one", 1, 1, 1);
 }
@@ -91,7 +85,7 @@ static void patterns(void)
     all = 1;
     each_pattern(0x0000800040003565, ask_alone);
     all = 0;
-    each_pattern(independent_make(any() >> 16), put_frame);
+    each_pattern(independent_make(any() >> 16), put_eight);
     const uint64_t size = next.size, count = size / 8;
     end_file(count, size);
     ask("salvage flips", count, count, count);
@@ -101,7 +95,7 @@ static void patterns(void)
 static void still(uint64_t frame, uint64_t frames)
 {
     for (uint64_t i = 0; i < frames; i++)
-        put_frame(frame);
+        put_eight(frame);
     end_file(frames, 8 * frames);
     ask("salvage still", frames, frames, frames);
 }

@@ -77,8 +77,8 @@ static void stretch_rows(void)
 
 static void frames_row(const uint64_t *frames, int n)
 {
-    for (int i = 0; i < 8 * n; i++)
-        put(frames[i / 8] >> (56 - 8 * (i % 8)));
+    for (int i = 0; i < n; i++)
+        put_eight(frames[i]);
     add(LANE, "lane count");
 }
 

@@ -1,0 +1,5 @@
+pub mod Moves
+pub mod Lines
+pub mod Turns
+pub mod InPlace
+pub mod OneAnswer

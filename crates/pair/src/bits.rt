@@ -1,0 +1,48 @@
+// The order of bits within words: halves change places, then the bits of each half go in turn.
+ghost use mathlib.Core.Path.{_≡_};
+ghost use Rattle.pair.specs.Parts.{Clear, Moved, exchanged, spreadFrom, gatheredFrom, highs, lows};
+
+// The bits at the ones of the mask and those k above change places.
+fn exchange(x: u64, mask: u64, k: u64) -> u64
+    requires { ⌜ Clear mask k ⌝ }
+    ensures { λ r. ⌜ Moved (exchanged mask k) x r ⌝ }
+{
+    let t = (x ^ (x >> k)) & mask;
+    x ^ t ^ (t << k)
+}
+
+// The high half at the odd bits, the low half at the even ones.
+pub(crate) fn shuffled(x: u64) -> u64
+    ensures { λ r. ⌜ Moved spreadFrom x r ⌝ }
+{
+    let a = exchange(x, 0x0000_0000_ffff_0000, 16);
+    let b = exchange(a, 0x0000_ff00_0000_ff00, 8);
+    let c = exchange(b, 0x00f0_00f0_00f0_00f0, 4);
+    let d = exchange(c, 0x0c0c_0c0c_0c0c_0c0c, 2);
+    exchange(d, 0x2222_2222_2222_2222, 1)
+}
+
+// The same steps back: the odd bits as the high half, the even ones as the low half.
+pub(crate) fn unshuffled(x: u64) -> u64
+    ensures { λ r. ⌜ Moved gatheredFrom x r ⌝ }
+{
+    let d = exchange(x, 0x2222_2222_2222_2222, 1);
+    let c = exchange(d, 0x0c0c_0c0c_0c0c_0c0c, 2);
+    let b = exchange(c, 0x00f0_00f0_00f0_00f0, 4);
+    let a = exchange(b, 0x0000_ff00_0000_ff00, 8);
+    exchange(a, 0x0000_0000_ffff_0000, 16)
+}
+
+// The high halves of both, as one number.
+pub(crate) fn highs(x: u64, y: u64) -> u64
+    ensures { λ r. ⌜ r ≡ highs x y ⌝ }
+{
+    x / 0x1_0000_0000 * 0x1_0000_0000 + y / 0x1_0000_0000
+}
+
+// The low halves.
+pub(crate) fn lows(x: u64, y: u64) -> u64
+    ensures { λ r. ⌜ r ≡ lows x y ⌝ }
+{
+    x % 0x1_0000_0000 * 0x1_0000_0000 + y % 0x1_0000_0000
+}

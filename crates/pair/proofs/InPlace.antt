@@ -49,20 +49,28 @@ over-over xs [] (o ∷ out) h = refl
 over-over [] (y ∷ ys) (o ∷ out) h = absurd (not-suc-le-zero h)
 over-over (x ∷ xs) (y ∷ ys) (o ∷ out) h = ap (λ (l : List ℕ). x ∷ l) (over-over xs ys out (le-of-suc-le-suc h))
 
+-- what is shown of the first i frames is i numbers
+shown-size : (c b fs : List ℕ) (g : Answer Found → ℕ) (i : ℕ) → i ≤ length fs → length (map g (map (readBy c b) (take i fs))) ≡ i
+shown-size c b fs g i h = length-map (map (readBy c b) (take i fs)) g ∙ map-size (readBy c b) fs 0 i h
+
+-- how many frames there are to read in a list of bytes
+pub frames-there : (n : ℕ) (o : List ℕ) → n ≤ length o / 8 → length (take n (numbersOf o)) ≡ n
+frames-there n o h = length-take-le n (numbersOf o) (omega (arith, numbers-len (length o / 8) o 0))
+
 module _ {c b o₀ : List ℕ} {n : ℕ} {g : Answer Found → ℕ} {i : ℕ} {o : List ℕ} where
   pub next-number : ShownBy c b (take n o₀) g o₀ i o → i < n → n ≤ length o₀ → getD o i 0 ≡ getD (take n o₀) i 0
   next-number s h l =
-      let fs = take n o₀ in
+      let e = shown-size c b (take n o₀) g i (omega (arith, length-take-le n o₀ l)) in
       ap (λ (l : List ℕ). getD l i 0) (s .shows)
-      ∙ over-behind (map g (map (readBy c b) (take i fs))) o₀ i 0 (omega (arith, length-map (map (readBy c b) (take i fs)) g, map-size (readBy c b) fs 0 i (omega (arith, length-take-le n o₀ l))))
+      ∙ over-behind (map g (map (readBy c b) (take i (take n o₀)))) o₀ i 0 (omega (arith, e))
       ∙ sym (getD-take n o₀ i 0 h)
 
   pub next-bytes : BytesBy c b (take n (numbersOf o₀)) g o₀ i o → i < n → n ≤ length o₀ / 8
       → getD (numbersOf o) i 0 ≡ getD (take n (numbersOf o₀)) i 0
   next-bytes s h l =
-      let fs = take n (numbersOf o₀) in
+      let e = shown-size c b (take n (numbersOf o₀)) g i (omega (arith, frames-there n o₀ l)) in
       ap (λ (l : List ℕ). getD (numbersOf l) i 0) (s .shows)
-      ∙ number-past (map g (map (readBy c b) (take i fs))) o₀ i (length-map (map (readBy c b) (take i fs)) g ∙ map-size (readBy c b) fs 0 i (omega (arith, length-take-le n (numbersOf o₀) (omega (arith, numbers-len (length o₀ / 8) o₀ 0))))) (omega arith)
+      ∙ number-past (map g (map (readBy c b) (take i (take n (numbersOf o₀))))) o₀ i e (omega arith)
       ∙ sym (getD-take n (numbersOf o₀) i 0 h)
 
 -- both answers of a pair of frames

@@ -107,36 +107,44 @@ spread-lt i h = omega arith
 gathered-lt : (i : ℕ) → i < 64 → gatheredFrom i < 64
 gathered-lt i h = omega arith
 
+-- two numbers with their halves exchanged
+abbrev pub halved : Pair ℕ → Pair ℕ
+halved p = pair (highs (p .first) (p .second)) (lows (p .first) (p .second))
+
+halved-whole : (p : Pair ℕ) → Whole p → Whole (halved p)
+halved-whole p (h, k) = (
+  two (p .first / 2 ^ 32) (p .second / 2 ^ 32) (shr-lt 32 32 h) (shr-lt 32 32 k),
+  two (p .first % 2 ^ 32) (p .second % 2 ^ 32) (mod-lt (p .first) (pow-pos 32)) (mod-lt (p .second) (pow-pos 32)),
+)
+  where
+    two : (x y : ℕ) → x < 2 ^ 32 → y < 2 ^ 32 → x * 2 ^ 32 + y < 2 ^ 64
+    two x y h k = omega arith
+
 pub words-joined : (p q : Pair ℕ) → Whole p → Moved spreadFrom (highs (p .first) (p .second)) (q .first)
     → Moved spreadFrom (lows (p .first) (p .second)) (q .second) → Interleaved p q
 words-joined p q w a b = record { frames = w; words = (a .0, b .0); bits = λ n h. line n h ∙ ap (lineBit (both p)) (place n h) }
   where
-    m : Pair ℕ
-    m = pair (highs (p .first) (p .second)) (lows (p .first) (p .second))
-
     line : Carried (λ n. quarters (within spreadFrom n)) p q
     line =
-        carried-then quarters (within spreadFrom) p m q (halves (p .first) (p .second) (w .0) (w .1)) (in-each spreadFrom m q spread-lt a b) tt
+        carried-then quarters (within spreadFrom) p (halved p) q (halves (p .first) (p .second) (w .0) (w .1))
+        (in-each spreadFrom (halved p) q spread-lt a b) tt
 
     place : (n : ℕ) → n < 128 → quarters (within spreadFrom n) ≡ origin n
     place = same-place (λ n. quarters (within spreadFrom n)) origin tt
 
 pub frames-parted : (v u : Pair ℕ) → Whole v → Moved gatheredFrom (v .first) (u .first) → Moved gatheredFrom (v .second) (u .second)
-    → Interleaved (pair (highs (u .first) (u .second)) (lows (u .first) (u .second))) v
+    → Interleaved (halved u) v
 frames-parted v u w a b =
     record {
-      frames = (two (u .first / 2 ^ 32) (u .second / 2 ^ 32) (shr-lt 32 32 (a .0)) (shr-lt 32 32 (b .0)), two (u .first % 2 ^ 32) (u .second % 2 ^ 32) (mod-lt (u .first) (pow-pos 32)) (mod-lt (u .second) (pow-pos 32)));
+      frames = halved-whole u (a .0, b .0);
       words = w;
       bits = λ n h. sym (line (origin n) (origin-lt n h) ∙ ap (lineBit (both v)) (place n h));
     }
   where
-    two : (x y : ℕ) → x < 2 ^ 32 → y < 2 ^ 32 → x * 2 ^ 32 + y < 2 ^ 64
-    two x y h k = omega arith
-
-    line : Carried (λ n. within gatheredFrom (quarters n)) v (pair (highs (u .first) (u .second)) (lows (u .first) (u .second)))
+    line : Carried (λ n. within gatheredFrom (quarters n)) v (halved u)
     line =
-        carried-then (within gatheredFrom) quarters v u (pair (highs (u .first) (u .second)) (lows (u .first) (u .second)))
-        (in-each gatheredFrom v u gathered-lt a b) (halves (u .first) (u .second) (a .0) (b .0)) tt
+        carried-then (within gatheredFrom) quarters v u (halved u) (in-each gatheredFrom v u gathered-lt a b)
+        (halves (u .first) (u .second) (a .0) (b .0)) tt
 
     place : (n : ℕ) → n < 128 → within gatheredFrom (quarters (origin n)) ≡ n
     place = same-place (λ n. within gatheredFrom (quarters (origin n))) (λ n. n) tt

@@ -27,6 +27,10 @@ use Rattle.pair.specs.Parts.{Moved, Clear, exchanged}
 abbrev toggled : ℕ → ℕ → ℕ → ℕ
 toggled m k x = bitAnd (bitXor x (x / 2 ^ k)) m
 
+-- the bit a after an exchange: b is the one k above, m the mask's bit here, l the toggle from k below
+abbrev mixed : ℕ → ℕ → ℕ → ℕ → ℕ
+mixed a b m l = differ (differ a (min (differ a b) m)) l
+
 -- a number moved up: 0 below, its own bits above
 shl-bit : (x k i : ℕ) → i < 64 → bit (x * 2 ^ k % 2 ^ 64) i ≡ cond (leb k i) (bit x (i - k)) 0
 shl-bit x k i h = bit-mod (x * 2 ^ k) 64 i h ∙ by (leb k i) refl
@@ -75,41 +79,44 @@ module _ (m k x : ℕ) (c : Clear m k) (i : ℕ) (h : i < 64) where
 
   -- with none from below the bit is its own, or that of k above
   settled : (b : Bool) → eqb (bit m i) 1 ≡ b → lower ≡ 0
-      → differ (differ (bit x i) (min (differ (bit x i) (bit x (k + i))) (bit m i))) lower ≡ bit x (cond b (i + k) i)
+      → mixed (bit x i) (bit x (k + i)) (bit m i) lower ≡ bit x (cond b (i + k) i)
   settled b e z =
-      ap₂ (λ (y l : ℕ). differ (differ (bit x i) (min (differ (bit x i) (bit x (k + i))) y)) l) (is b e) z ∙ by b
+      ap₂ (λ (y l : ℕ). mixed (bit x i) (bit x (k + i)) y l) (is b e) z ∙ by b
     where
       is : (b : Bool) → eqb (bit m i) 1 ≡ b → bit m i ≡ cond b 1 0
       is true e = eqb-true (bit m i) 1 e
       is false e = zero-or-one (bit m i) (bit-lt-2 m i) e
 
-      by : (b : Bool) → differ (differ (bit x i) (min (differ (bit x i) (bit x (k + i))) (cond b 1 0))) 0 ≡ bit x (cond b (i + k) i)
+      by : (b : Bool) → mixed (bit x i) (bit x (k + i)) (cond b 1 0) 0 ≡ bit x (cond b (i + k) i)
       by true =
-          two-bits (λ a d. differ (differ a (min (differ a d) 1)) 0 ≡ d) refl refl refl refl (bit x i) (bit x (k + i)) (bit-lt-2 x i) (bit-lt-2 x (k + i))
+          two-bits (λ a d. mixed a d 1 0 ≡ d) refl refl refl refl (bit x i) (bit x (k + i)) (bit-lt-2 x i) (bit-lt-2 x (k + i))
           ∙ ap (bit x) (add-comm k i)
       by false =
-          two-bits (λ a d. differ (differ a (min (differ a d) 0)) 0 ≡ a) refl refl refl refl (bit x i) (bit x (k + i)) (bit-lt-2 x i) (bit-lt-2 x (k + i))
+          two-bits (λ a d. mixed a d 0 0 ≡ a) refl refl refl refl (bit x i) (bit x (k + i)) (bit-lt-2 x i) (bit-lt-2 x (k + i))
 
   -- with a toggle from below it is that of k below, for the mask then has no one here
   from-below : bit m i ≡ 0 → lower ≡ min (differ (bit x (i - k)) (bit x i)) 1
-      → differ (differ (bit x i) (min (differ (bit x i) (bit x (k + i))) (bit m i))) lower ≡ bit x (i - k)
+      → mixed (bit x i) (bit x (k + i)) (bit m i) lower ≡ bit x (i - k)
   from-below z e =
-      ap₂ (λ (y l : ℕ). differ (differ (bit x i) (min (differ (bit x i) (bit x (k + i))) y)) l) z e
+      ap₂ (λ (y l : ℕ). mixed (bit x i) (bit x (k + i)) y l) z e
       ∙ ap (λ (y : ℕ). differ y (min (differ (bit x (i - k)) (bit x i)) 1))
       (two-bits (λ a d. differ a (min (differ a d) 0) ≡ a) refl refl refl refl (bit x i) (bit x (k + i)) (bit-lt-2 x i) (bit-lt-2 x (k + i)))
       ∙ two-bits (λ a d. differ a (min (differ d a) 1) ≡ d) refl refl refl refl (bit x i) (bit x (i - k)) (bit-lt-2 x i) (bit-lt-2 x (i - k))
 
-  changed : differ (differ (bit x i) (min (differ (bit x i) (bit x (k + i))) (bit m i))) lower ≡ bit x (exchanged m k i)
+  changed : mixed (bit x i) (bit x (k + i)) (bit m i) lower ≡ bit x (exchanged m k i)
   changed = here (eqb (bit m i) 1) refl
     where
+      not-one : bit m i ≡ 0 → eqb (bit m i) 1 ≡ false
+      not-one z = ne-eqb (bit m i) 1 (λ o. omega (arith, o, z))
+
       below : bit m i ≡ 0 → (b : Bool) → leb k i ≡ b → (d : Bool) → eqb (bit m (i - k)) 1 ≡ d
-          → differ (differ (bit x i) (min (differ (bit x i) (bit x (k + i))) (bit m i))) lower ≡ bit x (cond (b && d) (i - k) i)
+          → mixed (bit x i) (bit x (k + i)) (bit m i) lower ≡ bit x (cond (b && d) (i - k) i)
       below z true e true f = from-below z (one-below e (eqb-true (bit m (i - k)) 1 f))
-      below z true e false f = settled false (ne-eqb (bit m i) 1 (λ o. omega (arith, o, z))) (none-below (λ l. zero-or-one (bit m (i - k)) (bit-lt-2 m (i - k)) f))
-      below z false e d f = settled false (ne-eqb (bit m i) 1 (λ o. omega (arith, o, z))) (none-below (λ l. absurd (let n = leb-false k i e in omega arith)))
+      below z true e false f = settled false (not-one z) (none-below (λ l. zero-or-one (bit m (i - k)) (bit-lt-2 m (i - k)) f))
+      below z false e d f = settled false (not-one z) (none-below (λ l. absurd (let n = leb-false k i e in omega arith)))
 
       here : (b : Bool) → eqb (bit m i) 1 ≡ b
-          → differ (differ (bit x i) (min (differ (bit x i) (bit x (k + i))) (bit m i))) lower
+          → mixed (bit x i) (bit x (k + i)) (bit m i) lower
           ≡ bit x (cond b (i + k) (cond (leb k i && eqb (bit m (i - k)) 1) (i - k) i))
       here true e = settled true e (none-below (c .alone i h (eqb-true (bit m i) 1 e)))
       here false e = below (zero-or-one (bit m i) (bit-lt-2 m i) e) (leb k i) refl (eqb (bit m (i - k)) 1) refl

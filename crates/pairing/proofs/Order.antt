@@ -92,8 +92,12 @@ in-first : (p : Pair ℕ) (l : List ℕ) (n : ℕ) → n < 128 → lineBit (p .f
 in-first p l n h = by (decLe n 63)
   where
     by : Dec (n ≤ 63) → lineBit (p .first ∷ p .second ∷ l) n ≡ lineBit (both p) n
-    by (yes k) = first-bit (p .first ∷ p .second ∷ l) (63 - n) n (omega arith) (omega arith) ∙ sym (first-bit (both p) (63 - n) n (omega arith) (omega arith))
-    by (no k) = second-bit (p .first ∷ p .second ∷ l) (127 - n) n (omega arith) (omega arith) ∙ sym (second-bit (both p) (127 - n) n (omega arith) (omega arith))
+    by (yes k) =
+        first-bit (p .first ∷ p .second ∷ l) (63 - n) n (omega arith) (omega arith)
+        ∙ sym (first-bit (both p) (63 - n) n (omega arith) (omega arith))
+    by (no k) =
+        second-bit (p .first ∷ p .second ∷ l) (127 - n) n (omega arith) (omega arith)
+        ∙ sym (second-bit (both p) (127 - n) n (omega arith) (omega arith))
 
 in-rest : (a b : ℕ) (l : List ℕ) (n m : ℕ) → n ≡ 128 + m → lineBit (a ∷ b ∷ l) n ≡ lineBit l m
 in-rest a b l n m e = line-at (a ∷ b ∷ l) n (suc (suc (m / 64))) (m % 64) (omega arith) (omega arith)

@@ -1,3 +1,4 @@
+// The rows of pairs: words that are known, an odd list, short outputs, and a refused frame on either side.
 #include "cases.h"
 
 #define ZERO 0x0000800040003565 // the frames of data 0 and of all ones

@@ -1,3 +1,4 @@
+// Pairs: two numbers, lists of each length around what is asked of them, and words as they are read.
 #include "../../host/independent.h"
 #include "cases.h"
 

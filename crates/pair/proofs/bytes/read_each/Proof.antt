@@ -1,17 +1,15 @@
 -- `pair::bytes::read_each` meets its contract: after i turns the first i frames are read where they stood.
-use mathlib.Core.Path.{_≡_, sym, ap, _∙_, subst}
+use mathlib.Core.Path.{sym, ap, _∙_, subst}
 use mathlib.Core.List.{List}
-use Prim.Native.Nat.{ℕ, _+_, _-_, _/_, _<_, _≤_}
+use Prim.Native.Nat.{ℕ, _+_, _-_, _<_, _≤_}
 use native.Mathlib.Omega.{arith}
 use lib.ListN.{length, take}
-use lib.Seq.{length-take-le}
 use Rattle.radix.specs.Octets.{numbersOf}
-use Rattle.radix.proofs.Joined.{numbers-len}
 use Rattle.reader.specs.Answers.{verdict, dataIn}
 use Rattle.reader.specs.ByTables.{readBy}
 use Rattle.reader.specs.declared.sight.Sight.{Sight}
 use Rattle.reader.proofs.Turns.{ShownBy, BytesBy, shown-none, bytes-none, shown-turn, bytes-turn, shown-end, bytes-end}
-use Rattle.pair.proofs.InPlace.{next-bytes}
+use Rattle.pair.proofs.InPlace.{frames-there, next-bytes}
 use Rattle.pair.proofs.bytes.read_each.Statement.{statement}
 use Rattle.pair.proofs.bytes.read_each.Tie as tie
 
@@ -37,10 +35,6 @@ add-i c = omega arith
 
 loop-less : tie.Need-loop-less Inv-loop μ-loop
 loop-less c = omega arith
-
--- how many frames there are to read
-frames-there : (n : ℕ) (o : List ℕ) → n ≤ length o / 8 → length (take n (numbersOf o)) ≡ n
-frames-there n o h = length-take-le n (numbersOf o) (omega (arith, numbers-len (length o / 8) o 0))
 
 loop-again : tie.Need-loop-again Inv-loop μ-loop
 loop-again c =

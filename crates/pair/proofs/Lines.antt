@@ -108,7 +108,7 @@ gathered-lt : (i : ℕ) → i < 64 → gatheredFrom i < 64
 gathered-lt i h = omega arith
 
 -- two numbers with their halves exchanged
-abbrev pub halved : Pair ℕ → Pair ℕ
+abbrev halved : Pair ℕ → Pair ℕ
 halved p = pair (highs (p .first) (p .second)) (lows (p .first) (p .second))
 
 halved-whole : (p : Pair ℕ) → Whole p → Whole (halved p)

@@ -3,8 +3,7 @@
 -- │ clear-by     │ what is asked of a mask, by a test that is computed │
 -- │ exchanged-lt │ where a bit comes from is within the word           │
 -- │ exchange-bit │ the bits after an exchange                          │
--- │ moved-by     │ two moves that are the same at each place           │
--- │ five         │ five exchanges, one after the other                 │
+-- │ five         │ five exchanges in a row come to one move, by a test │
 -- │ by-16 …      │ the masks of the five                               │
 -- └──────────────┴─────────────────────────────────────────────────────┘
 use mathlib.Core.Path.{_≡_, refl, sym, ap, ap₂, _∙_, subst}
@@ -167,18 +166,19 @@ clear-by m k s t = record { short = s; room = λ i h o. pick i h o .0; alone = �
           alone i (leb k i) (eqb (bit m (i - k)) 1) refl refl (and-r (ltb (i + k) 64) (not (leb k i && eqb (bit m (i - k)) 1)) a),
         )
 
-pub moved-by : (f g : ℕ → ℕ) (x r : ℕ) → T (upto (λ i. eqb (f i) (g i)) 64) → Moved f x r → Moved g x r
-moved-by f g x r t (a, p) = (a, λ i h. p i h ∙ ap (bit x) (eqb→eq (f i) (g i) (below (λ i. eqb (f i) (g i)) 64 t i h)))
-
 -- five exchanges, one after the other
 module _ {m₂ k₂ m₃ k₃ m₄ k₄ m₅ k₅ : ℕ} (c₂ : Clear m₂ k₂) (c₃ : Clear m₃ k₃) (c₄ : Clear m₄ k₄) (c₅ : Clear m₅ k₅) where
   then : {m k : ℕ} → Clear m k → (f : ℕ → ℕ) (x y z : ℕ) → Moved f x y → Moved (exchanged m k) y z → Moved (λ i. f (exchanged m k i)) x z
   then {m} {k} c f x y z (a, p) (b, q) = (b, λ i h. q i h ∙ p (exchanged m k i) (exchanged-lt m k 0 c i h))
 
-  pub five : (f : ℕ → ℕ) (x₀ x₁ x₂ x₃ x₄ x₅ : ℕ) → Moved f x₀ x₁ → Moved (exchanged m₂ k₂) x₁ x₂ → Moved (exchanged m₃ k₃) x₂ x₃
-      → Moved (exchanged m₄ k₄) x₃ x₄ → Moved (exchanged m₅ k₅) x₄ x₅
-      → Moved (λ i. f (exchanged m₂ k₂ (exchanged m₃ k₃ (exchanged m₄ k₄ (exchanged m₅ k₅ i))))) x₀ x₅
-  five f x₀ x₁ x₂ x₃ x₄ x₅ p q r s t = then c₅ _ _ _ _ (then c₄ _ _ _ _ (then c₃ _ _ _ _ (then c₂ f _ _ _ p q) r) s) t
+  -- that come to the move g, which is a test
+  pub five : (f g : ℕ → ℕ) → T (upto (λ i. eqb (f (exchanged m₂ k₂ (exchanged m₃ k₃ (exchanged m₄ k₄ (exchanged m₅ k₅ i))))) (g i)) 64)
+      → (x₀ x₁ x₂ x₃ x₄ x₅ : ℕ) → Moved f x₀ x₁ → Moved (exchanged m₂ k₂) x₁ x₂ → Moved (exchanged m₃ k₃) x₂ x₃
+      → Moved (exchanged m₄ k₄) x₃ x₄ → Moved (exchanged m₅ k₅) x₄ x₅ → Moved g x₀ x₅
+  five f g u x₀ x₁ x₂ x₃ x₄ x₅ p q r s t =
+      let F : ℕ → ℕ = λ i. f (exchanged m₂ k₂ (exchanged m₃ k₃ (exchanged m₄ k₄ (exchanged m₅ k₅ i)))) in
+      let a = then c₅ _ _ _ _ (then c₄ _ _ _ _ (then c₃ _ _ _ _ (then c₂ f _ _ _ p q) r) s) t in
+      (a .0, λ i h. a .1 i h ∙ ap (bit x₀) (eqb→eq (F i) (g i) (below (λ i. eqb (F i) (g i)) 64 u i h)))
 
 -- the masks of the five
 pub by-16 : Clear 0x00000000FFFF0000 16

@@ -33,12 +33,12 @@ module _ {E : List ℕ → List ℕ} {R : Pair ℕ → Pair ℕ → Type 0} {xs 
 
   module _ {k : ℕ} {o : List ℕ} (a : After E R xs o₀ k o) where
     -- the numbers written so far
-    pub so-far : k ≤ length xs / 2 → length (inTurn (a .ys)) ≡ 2 * k
+    so-far : k ≤ length xs / 2 → length (inTurn (a .ys)) ≡ 2 * k
     so-far h =
         let l : length (a .ys) ≡ k = each-length (a .each) ∙ length-take-le k (pairsOf xs) (subst (λ (n : ℕ). k ≤ n) (sym (pairs-length xs)) h) in
         turn-length (a .ys) ∙ ap (λ (n : ℕ). 2 * n) l
 
-    pub turn : k < length xs / 2 → {t : Pair ℕ} {o′ : List ℕ} → R (pair (getD xs (2 * k) 0) (getD xs (2 * k + 1) 0)) t
+    turn : k < length xs / 2 → {t : Pair ℕ} {o′ : List ℕ} → R (pair (getD xs (2 * k) 0) (getD xs (2 * k + 1) 0)) t
         → o′ ≡ E (inTurn (a .ys) ++ t .first ∷ t .second ∷ []) over o₀ → After E R xs o₀ (k + 1) o′
     turn h {t} {o′} r e =
         let w : o′ ≡ E (inTurn (a .ys ++ t ∷ [])) over o₀ = e ∙ ap (λ (l : List ℕ). E l over o₀) (sym (turn-more (a .ys) t)) in

@@ -1,16 +1,14 @@
 -- `pair::bits::shuffled` meets its contract: five exchanges, which come to one move.
 use Rattle.pair.specs.Parts.{spreadFrom}
-use Rattle.pair.proofs.Moves.{by-16, by-8, by-4, by-2, by-1, five, moved-by}
+use Rattle.pair.proofs.Moves.{by-16, by-8, by-4, by-2, by-1, five}
 use Rattle.pair.proofs.bits.shuffled.Statement.{statement}
 use Rattle.pair.proofs.bits.shuffled.Tie as tie
 
 returns : tie.Need-returns
 returns c =
-    let d = c .before .before in
-    let a = d .before .before in
-    moved-by _ spreadFrom _ _ tt
-    (five by-8 by-4 by-2 by-1 _ _ _ _ _ _ _ (a .exchange .ensures) (d .before .exchange2 .ensures) (d .exchange3 .ensures) (c .before .exchange4 .ensures)
-    (c .exchange5 .ensures))
+    let b = c .before .before in
+    five by-8 by-4 by-2 by-1 _ spreadFrom tt _ _ _ _ _ _ (b .before .before .exchange .ensures) (b .before .exchange2 .ensures)
+    (b .exchange3 .ensures) (c .before .exchange4 .ensures) (c .exchange5 .ensures)
 
 pub shuffled-spec : {M : Type 1} → statement M
 shuffled-spec = tie.close (tie.spec (λ c κs. by-16) (λ c κs. by-8) (λ c κs. by-4) (λ c κs. by-2) (λ c κs. by-1) returns)

@@ -11,7 +11,6 @@ ghost use Rattle.host.specs.Entries.{returned};
 ghost use Rattle.host.specs.Captures.{Returned};
 ghost use Rattle.maker.specs.Lists.{MakesList};
 ghost use Rattle.reader.specs.Lists.{ReadsList, ReadsPads, VerdictOf};
-ghost use Rattle.pair.specs.Calls.{MakesPairs, ReadsPairs};
 ghost use Rattle.salvage.specs.Calls.{answer as salvage·answer, Salvages};
 ghost use Rattle.salvage.specs.declared.Counts.{Counts};
 use capture::Filed;
@@ -57,20 +56,6 @@ pub extern "C" fn bench_read_list_pads(
         (pads .entry to pads .exit) (checks .entry to checks .exit) (numbered n) ⌝ }
 {
     paper::number_of(reader::read_list_pads(frames, data, verdicts, pads, checks))
-}
-
-#[no_mangle]
-pub extern "C" fn bench_pairs_make(frames: &[u64], words: &mut [u64]) -> u8
-    ensures { λ n. ⌜ MakesPairs (now (frames .entry)) (words .entry to words .exit) (numbered n) ⌝ }
-{
-    paper::number_of(pair::make_pairs(frames, words))
-}
-
-#[no_mangle]
-pub extern "C" fn bench_pairs_read(words: &[u64], data: &mut [u64], verdicts: &mut [u8]) -> u8
-    ensures { λ n. ⌜ ReadsPairs (now (words .entry)) («data» .entry to «data» .exit) (verdicts .entry to verdicts .exit) (numbered n) ⌝ }
-{
-    paper::number_of(pair::read_pairs(words, data, verdicts))
 }
 
 fn length_of(f: Filed) -> u64

@@ -14,8 +14,10 @@ ghost use Rattle.pair.specs.Calls.{inWordBytes, bytesBothShown, MakesPai
 ghost use Rattle.pair.specs.Parts.{Converted};
 use crate::Two;
 use crate::lists::converted;
+use crate::lists::data_of;
 use paper::Listed;
-use reader::sight_by;
+use reader::read_by;
+use reader::verdict_of;
 
 fn put_two(list: &mut [u8], k: usize, t: Two)
     requires { ⌜ 2 * k + 1 < length (now list) / 8 ⌝ }
@@ -53,9 +55,9 @@ fn read_each(c: &[u16; 4096], b: &[u16; 2048], n: usize, list: &mut [u8], verdic
 {
     let mut i = 0;
     while i < n {
-        let s = sight_by(c, b, octets::number(list, i));
-        octets::store(list, i, s.data);
-        verdicts[i] = s.verdict;
+        let r = read_by(c, b, octets::number(list, i));
+        octets::store(list, i, data_of(r));
+        verdicts[i] = verdict_of(r);
         i += 1;
     }
 }

@@ -4,7 +4,7 @@ ghost use mathlib.Core.List.{[], _∷_};
 ghost use Prim.Native.Nat.{_+_, _*_, _%_, _<_, _≤_};
 ghost use lib.ListN.{length, take, set};
 ghost use Rattle.laws.specs.Lent.{lent, Written};
-ghost use Rattle.reader.specs.Answers.{verdict, dataIn};
+ghost use Rattle.reader.specs.Answers.{answer, verdict, dataIn};
 ghost use Rattle.reader.specs.Parts.{ShowsBy};
 ghost use Rattle.pairing.specs.Order.{pairsOf};
 ghost use Rattle.pairing.specs.Answers.{ReadBoth};
@@ -13,7 +13,9 @@ ghost use Rattle.pair.specs.Parts.{Converted};
 use crate::Two;
 use crate::join;
 use crate::part;
-use reader::sight_by;
+use reader::Reading;
+use reader::read_by;
+use reader::verdict_of;
 
 // The words of two frames; or, back, the frames of two words.
 pub(crate) fn converted(back: bool, first: u64, second: u64) -> Two
@@ -46,6 +48,16 @@ pub(crate) fn over_pairs(back: bool, from: &[u64], out: &mut [u64])
     }
 }
 
+// 0 where the frame is refused.
+pub(crate) fn data_of(r: Reading) -> u64
+    ensures { λ x. ⌜ x ≡ dataIn (answer r) ⌝ }
+{
+    match r {
+        Reading::Lawful(w) => w.data,
+        Reading::Refused(_) => 0,
+    }
+}
+
 // The first n frames of the list, each read where it stands.
 fn read_each(c: &[u16; 4096], b: &[u16; 2048], n: usize, list: &mut [u64], verdicts: &mut [u8])
     requires { ⌜ (n ≤ length (now list)) × (n ≤ length (now verdicts)) ⌝ }
@@ -54,9 +66,9 @@ fn read_each(c: &[u16; 4096], b: &[u16; 2048], n: usize, list: &mut [u64], verdi
 {
     let mut i = 0;
     while i < n {
-        let s = sight_by(c, b, list[i]);
-        list[i] = s.data;
-        verdicts[i] = s.verdict;
+        let r = read_by(c, b, list[i]);
+        list[i] = data_of(r);
+        verdicts[i] = verdict_of(r);
         i += 1;
     }
 }

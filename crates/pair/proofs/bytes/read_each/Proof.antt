@@ -7,7 +7,6 @@ use lib.ListN.{length, take}
 use Rattle.radix.specs.Octets.{numbersOf}
 use Rattle.reader.specs.Answers.{verdict, dataIn}
 use Rattle.reader.specs.ByTables.{readBy}
-use Rattle.reader.specs.declared.sight.Sight.{Sight}
 use Rattle.reader.proofs.Turns.{ShownBy, BytesBy, shown-none, bytes-none, shown-turn, bytes-turn, shown-end, bytes-end}
 use Rattle.pair.proofs.InPlace.{frames-there, next-bytes}
 use Rattle.pair.proofs.bytes.read_each.Statement.{statement}
@@ -38,20 +37,22 @@ loop-less c = omega arith
 
 loop-again : tie.Need-loop-again Inv-loop μ-loop
 loop-again c =
-    let d = c .before .before in
-    let m = d .before .before in
-    let t = m .before .before .before in
+    let o = c .before .before .before in
+    let d = o .before in
+    let r = d .before .before in
+    let t = r .before .before .before in
     let l = t .before .loop in
     let s = t .before .before .before .before in
     let a = s .args in
     let h = t .loop-test .taken in
     let k : l .i < length (take (a .n) (numbersOf (a .list .now))) = omega (arith, h, frames-there (a .n) (a .list .now) (s .pre .0)) in
-    let e = ap (readBy (a .c .now) (a .b .now)) (m .before .number .ensures ∙ next-bytes (l .inv .list) h (s .pre .0)) in
+    let next = r .before .number .ensures ∙ next-bytes (l .inv .list) h (s .pre .0) in
+    let e = r .read-by .ensures ∙ ap (readBy (a .c .now) (a .b .now)) next in
     record {
       here = omega (arith, h);
-      list = subst (BytesBy (a .c .now) (a .b .now) (take (a .n) (numbersOf (a .list .now))) dataIn (a .list .now) (l .i + 1)) (sym (d .store .ensures))
-          (bytes-turn (l .inv .list) k e (ap (λ (x : Sight). x .«data») (m .sight-by .ensures)) (omega (arith, h, s .pre .0)));
-      verdicts = shown-turn (l .inv .verdicts) k e (ap (λ (x : Sight). x .verdict) (m .sight-by .ensures));
+      list = subst (BytesBy (a .c .now) (a .b .now) (take (a .n) (numbersOf (a .list .now))) dataIn (a .list .now) (l .i + 1)) (sym (o .store .ensures))
+          (bytes-turn (l .inv .list) k e (d .data-of .ensures) (omega (arith, h, s .pre .0)));
+      verdicts = shown-turn (l .inv .verdicts) k e (c .verdict-of .ensures);
     }
 
 same-length : tie.Need-same-length Inv-loop μ-loop
@@ -75,6 +76,8 @@ read-each-spec =
     Inv-loop
     μ-loop
     loop-holds
+    (λ c κs. tt)
+    (λ c κs. tt)
     (λ c κs. tt)
     (λ c κs. tt)
     (λ c κs. tt)

@@ -1,5 +1,5 @@
 -- `pair::lists::read_each` meets its contract: after i turns the first i frames are read where they stood.
-use mathlib.Core.Path.{ap}
+use mathlib.Core.Path.{ap, _∙_}
 use mathlib.Core.List.{List}
 use Prim.Native.Nat.{ℕ, _-_, _<_, _≤_}
 use native.Mathlib.Omega.{arith}
@@ -7,7 +7,6 @@ use lib.ListN.{length, take}
 use lib.Seq.{length-take-le}
 use Rattle.reader.specs.Answers.{verdict, dataIn}
 use Rattle.reader.specs.ByTables.{readBy}
-use Rattle.reader.specs.declared.sight.Sight.{Sight}
 use Rattle.reader.proofs.Turns.{ShownBy, shown-none, shown-turn, shown-end}
 use Rattle.pair.proofs.InPlace.{next-number}
 use Rattle.pair.proofs.lists.read_each.Statement.{statement}
@@ -27,14 +26,14 @@ abbrev μ-loop : tie.MeasureT-loop
 loop-holds : tie.Need-loop-holds Inv-loop μ-loop
 loop-holds c = record { here = omega arith; list = shown-none; verdicts = shown-none }
 
-mul-sight-by : tie.Need-mul-sight-by Inv-loop μ-loop
-mul-sight-by c = omega arith
+mul-read-by : tie.Need-mul-read-by Inv-loop μ-loop
+mul-read-by c = omega arith
 
-slice-read-sight-by : tie.Need-slice-read-sight-by Inv-loop μ-loop
-slice-read-sight-by c = omega arith
+slice-read-read-by : tie.Need-slice-read-read-by Inv-loop μ-loop
+slice-read-read-by c = omega arith
 
-sight-by-requires : tie.Need-sight-by-requires Inv-loop μ-loop
-sight-by-requires c κs = tt
+read-by-requires : tie.Need-read-by-requires Inv-loop μ-loop
+read-by-requires c κs = tt
 
 mul-list : tie.Need-mul-list Inv-loop μ-loop
 mul-list c = omega arith
@@ -53,17 +52,19 @@ loop-less c = omega arith
 
 loop-again : tie.Need-loop-again Inv-loop μ-loop
 loop-again c =
-    let t = c .before .before in
+    let d = c .before in
+    let r = d .before in
+    let t = r .before .before in
     let l = t .before .loop in
     let s = t .before .before .before .before in
     let a = s .args in
     let h = t .loop-test .taken in
     let k : l .i < length (take (a .n) (a .list .now)) = omega (arith, h, length-take-le (a .n) (a .list .now) (s .pre .0)) in
-    let e = ap (readBy (a .c .now) (a .b .now)) (next-number (l .inv .list) h (s .pre .0)) in
+    let e = r .read-by .ensures ∙ ap (readBy (a .c .now) (a .b .now)) (next-number (l .inv .list) h (s .pre .0)) in
     record {
       here = omega (arith, h);
-      list = shown-turn (l .inv .list) k e (ap (λ (x : Sight). x .«data») (c .sight-by .ensures));
-      verdicts = shown-turn (l .inv .verdicts) k e (ap (λ (x : Sight). x .verdict) (c .sight-by .ensures));
+      list = shown-turn (l .inv .list) k e (d .data-of .ensures);
+      verdicts = shown-turn (l .inv .verdicts) k e (c .verdict-of .ensures);
     }
 
 same-length : tie.Need-same-length Inv-loop μ-loop
@@ -87,11 +88,13 @@ read-each-spec =
     Inv-loop
     μ-loop
     loop-holds
-    mul-sight-by
-    slice-read-sight-by
-    sight-by-requires
+    mul-read-by
+    slice-read-read-by
+    read-by-requires
+    (λ c κs. tt)
     mul-list
     slice-write-list
+    (λ c κs. tt)
     slice-write-verdicts
     add-i
     loop-less

@@ -1,8 +1,8 @@
--- `frame_bench::bench_pairs_make` meets its contract: that of `pair::make_pairs`, with its answer's number.
+-- `pair_bench::bench_pairs_make` meets its contract: that of `pair::make_pairs`, with its answer's number.
 use borrow.Author.Needs.{needs}
 use Rattle.laws.proofs.Writing.{numbered-call}
-use Rattle.frame_bench.proofs.bench_pairs_make.Statement.{statement}
-use Rattle.frame_bench.proofs.bench_pairs_make.Tie as tie
+use Rattle.pair_bench.proofs.bench_pairs_make.Statement.{statement}
+use Rattle.pair_bench.proofs.bench_pairs_make.Tie as tie
 
 make-pairs-requires : tie.Need-make-pairs-requires
 make-pairs-requires c κs = search needs

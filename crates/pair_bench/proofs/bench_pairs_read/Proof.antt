@@ -1,8 +1,8 @@
--- `frame_bench::bench_pairs_read` meets its contract: that of `pair::read_pairs`, with its answer's number.
+-- `pair_bench::bench_pairs_read` meets its contract: that of `pair::read_pairs`, with its answer's number.
 use borrow.Author.Needs.{needs}
 use Rattle.laws.proofs.Writing.{numbered-call}
-use Rattle.frame_bench.proofs.bench_pairs_read.Statement.{statement}
-use Rattle.frame_bench.proofs.bench_pairs_read.Tie as tie
+use Rattle.pair_bench.proofs.bench_pairs_read.Statement.{statement}
+use Rattle.pair_bench.proofs.bench_pairs_read.Tie as tie
 
 read-pairs-requires : tie.Need-read-pairs-requires
 read-pairs-requires c κs = search needs

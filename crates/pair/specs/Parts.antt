@@ -11,6 +11,8 @@
 -- │ highs x y       │ the high halves of two numbers, as one number              │
 -- │ lows x y        │ their low halves                                           │
 -- │ Converted b p q │ q are the words of the frames p; back, its frames          │
+-- │ PairRoom n d v  │ n words are whole pairs, and there are so many places for  │
+-- │                 │ data, d, and for verdicts, v                               │
 -- └─────────────────┴────────────────────────────────────────────────────────────┘
 use mathlib.Core.Path.{_≡_}
 use mathlib.Core.Bool.{Bool, true, false, _&&_, cond}
@@ -45,3 +47,8 @@ lows x y = x % 2 ^ 32 * 2 ^ 32 + y % 2 ^ 32
 abbrev pub Converted : Bool → Pair ℕ → Pair ℕ → Type 0
 Converted false p q = Interleaved p q
 Converted true p q = Interleaved q p
+
+pub record PairRoom (n d v : ℕ) : Type 0 where
+  pub pairs : n % 2 ≡ 0
+  pub places : n ≤ d
+  pub verdicts : n ≤ v

@@ -1,7 +1,7 @@
 // The list forms on bytes: a number is eight bytes, highest first.
 ghost use mathlib.Core.Path.{_≡_};
 ghost use mathlib.Core.List.{[], _∷_};
-ghost use Prim.Native.Nat.{_+_, _*_, _/_, _%_, _<_, _≤_};
+ghost use Prim.Native.Nat.{_+_, _*_, _/_, _<_, _≤_};
 ghost use lib.ListN.{length, take};
 ghost use Rattle.paper.specs.Answer.{listed};
 ghost use Rattle.laws.specs.Lent.{_to_, lent, Written};
@@ -11,7 +11,7 @@ ghost use Rattle.reader.specs.Parts.{ShowsBy, ShowsBytesBy};
 ghost use Rattle.pairing.specs.Order.{pairsOf};
 ghost use Rattle.pairing.specs.Answers.{ReadBoth};
 ghost use Rattle.pair.specs.Calls.{inWordBytes, bytesBothShown, MakesPairsBytes, ReadsPairsBytes};
-ghost use Rattle.pair.specs.Parts.{Converted};
+ghost use Rattle.pair.specs.Parts.{Converted, PairRoom};
 use crate::Two;
 use crate::lists::converted;
 use crate::lists::data_of;
@@ -29,7 +29,7 @@ fn put_two(list: &mut [u8], k: usize, t: Two)
 
 // Frames to words, pair by pair; or, back, words to frames.
 fn over_pairs(back: bool, from: &[u8], out: &mut [u8])
-    requires { ⌜ length (now from) ≤ length (now out) ⌝ }
+    requires { ⌜ length (now from) / 8 ≤ length (now out) / 8 ⌝ }
     ensures { λ _. ⌜ Written (Converted back) (pairsOf (numbersOf (now (from .entry)))) (inWordBytes (lent out) ∷ []) ⌝ }
 {
     let mut k = 0;
@@ -64,7 +64,7 @@ fn read_each(c: &[u16; 4096], b: &[u16; 2048], n: usize, list: &mut [u8], verdic
 
 // The frames first, where their data is to stand; then they are read, by tables that are taken once.
 fn read_all(words: &[u8], data: &mut [u8], verdicts: &mut [u8])
-    requires { ⌜ (length (now words) % 16 ≡ 0) × (length (now words) ≤ length (now «data»)) × (length (now words) / 8 ≤ length (now verdicts)) ⌝ }
+    requires { ⌜ PairRoom (length (now words) / 8) (length (now «data») / 8) (length (now verdicts)) ⌝ }
     ensures { λ _. ⌜ Written ReadBoth (pairsOf (numbersOf (now (words .entry)))) (bytesBothShown (lent «data») (lent verdicts)) ⌝ }
 {
     over_pairs(true, words, data);

@@ -1,7 +1,7 @@
 // The loops of the list forms, over outputs that are long enough.
 ghost use mathlib.Core.Path.{_≡_};
 ghost use mathlib.Core.List.{[], _∷_};
-ghost use Prim.Native.Nat.{_+_, _*_, _%_, _<_, _≤_};
+ghost use Prim.Native.Nat.{_+_, _*_, _<_, _≤_};
 ghost use lib.ListN.{length, take, set};
 ghost use Rattle.laws.specs.Lent.{lent, Written};
 ghost use Rattle.reader.specs.Answers.{answer, verdict, dataIn};
@@ -9,7 +9,7 @@ ghost use Rattle.reader.specs.Parts.{ShowsBy};
 ghost use Rattle.pairing.specs.Order.{pairsOf};
 ghost use Rattle.pairing.specs.Answers.{ReadBoth};
 ghost use Rattle.pair.specs.Calls.{pair, asPair, inWords, bothShown};
-ghost use Rattle.pair.specs.Parts.{Converted};
+ghost use Rattle.pair.specs.Parts.{Converted, PairRoom};
 use crate::Two;
 use crate::join;
 use crate::part;
@@ -75,7 +75,7 @@ fn read_each(c: &[u16; 4096], b: &[u16; 2048], n: usize, list: &mut [u64], verdi
 
 // The frames first, where their data is to stand; then they are read, by tables that are taken once.
 pub(crate) fn read_all(words: &[u64], data: &mut [u64], verdicts: &mut [u8])
-    requires { ⌜ (length (now words) % 2 ≡ 0) × (length (now words) ≤ length (now «data»)) × (length (now words) ≤ length (now verdicts)) ⌝ }
+    requires { ⌜ PairRoom (length (now words)) (length (now «data»)) (length (now verdicts)) ⌝ }
     ensures { λ _. ⌜ Written ReadBoth (pairsOf (now (words .entry))) (bothShown (lent «data») (lent verdicts)) ⌝ }
 {
     over_pairs(true, words, data);

@@ -31,8 +31,8 @@ returns c =
     let w = o .over-pairs .ensures in
     let e = r .read-each .ensures in
     let n = numbers-len (length ws / 8) ws 0 in
-    pass-bytes (b .before .corrections .ensures) (b .byte-sums .ensures) (numbersOf ws) (omega (arith, n, a .pre .0)) (w .ys) (w .each) _ _ _ n _
-    (omega (arith, a .pre .1)) (w .all .0) (e .0) (e .1)
+    pass-bytes (b .before .corrections .ensures) (b .byte-sums .ensures) (numbersOf ws) (omega (arith, n, a .pre .pairs)) (w .ys) (w .each) _ _ _ n _
+    (a .pre .places) (w .all .0) (e .0) (e .1)
 
 pub read-all-spec : {M : Type 1} → statement M
 read-all-spec =

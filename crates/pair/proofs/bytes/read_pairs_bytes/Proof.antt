@@ -44,8 +44,7 @@ returns-5 c =
 read-all-requires : tie.Need-read-all-requires
 read-all-requires c κs =
     let e = c .before .before in
-    let k = e .before .before in
-    (omega (arith, k .before .before .if1 .left, k .if3 .left), omega (arith, e .before .if4 .left), omega (arith, e .if5 .left))
+    record { pairs = omega (arith, e .before .before .if3 .left); places = omega (arith, e .before .if4 .left); verdicts = omega (arith, e .if5 .left) }
 
 same-length : tie.Need-same-length
 same-length c = search needs

@@ -25,8 +25,8 @@ returns c =
     let a = o .before .before .before .before .before in
     let w = o .over-pairs .ensures in
     let e = r .read-each .ensures in
-    pass-list (b .before .corrections .ensures) (b .byte-sums .ensures) (a .args .words .now) (a .pre .0) (w .ys) (w .each) _ _ _ refl _
-    (a .pre .1) (w .all .0) (e .0) (e .1)
+    pass-list (b .before .corrections .ensures) (b .byte-sums .ensures) (a .args .words .now) (a .pre .pairs) (w .ys) (w .each) _ _ _ refl _
+    (a .pre .places) (w .all .0) (e .0) (e .1)
 
 pub read-all-spec : {M : Type 1} → statement M
 read-all-spec =

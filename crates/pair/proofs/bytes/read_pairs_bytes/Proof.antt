@@ -1,45 +1,36 @@
 -- `pair::bytes::read_pairs_bytes` meets its contract: the tests of every length, then both passes.
 use mathlib.Core.Path.{refl}
 use native.Mathlib.Omega.{arith}
-use borrow.Author.Tests.{lt-ltb, le-ltb, eq-eqb, ne-eqb}
 use borrow.Author.Needs.{needs}
 use Rattle.laws.proofs.Writing.{call-refused, call-done}
+use Rattle.pair.proofs.Refusals.{read-bytes-unfit, read-bytes-fit}
 use Rattle.pair.proofs.bytes.read_pairs_bytes.Statement.{statement}
 use Rattle.pair.proofs.bytes.read_pairs_bytes.Tie as tie
 
 returns : tie.Need-returns
-returns c = call-refused 11 (simp (ne-eqb _ _ (c .if1 .taken))) (refl, (refl, tt))
+returns c =
+    let a = c .before .before .before .before .args in
+    call-refused 11 (read-bytes-unfit (a .words .now) (a .«data» .now) (a .verdicts .now) (λ e f o l m. c .if1 .taken (omega (arith, e)))) (refl, (refl, tt))
 
 returns-2 : tie.Need-returns-2
-returns-2 c = call-refused 11 (simp (eq-eqb _ _ (c .before .if1 .left), ne-eqb _ _ (c .if2 .taken))) (refl, (refl, tt))
+returns-2 c =
+    let a = c .before .before .before .before .before .args in
+    call-refused 11 (read-bytes-unfit (a .words .now) (a .«data» .now) (a .verdicts .now) (λ e f o l m. c .if2 .taken (omega (arith, f)))) (refl, (refl, tt))
 
 returns-3 : tie.Need-returns-3
 returns-3 c =
-    let q = c .before in
-    call-refused 11 (simp (eq-eqb _ _ (q .before .if1 .left), eq-eqb _ _ (q .if2 .left), ne-eqb _ _ (c .if3 .taken))) (refl, (refl, tt))
+    let a = c .before .before .before .before .before .before .args in
+    call-refused 11 (read-bytes-unfit (a .words .now) (a .«data» .now) (a .verdicts .now) (λ e f o l m. c .if3 .taken (omega (arith, o)))) (refl, (refl, tt))
 
 returns-4 : tie.Need-returns-4
 returns-4 c =
-    let k = c .before in
-    let q = k .before in
-    call-refused 11
-    (simp (eq-eqb _ _ (q .before .if1 .left), eq-eqb _ _ (q .if2 .left), eq-eqb _ _ (k .if3 .left), lt-ltb _ _ (c .if4 .taken)))
-    (refl, (refl, tt))
+    let a = c .before .before .before .before .before .before .before .args in
+    call-refused 11 (read-bytes-unfit (a .words .now) (a .«data» .now) (a .verdicts .now) (λ e f o l m. omega (arith, l, c .if4 .taken))) (refl, (refl, tt))
 
 returns-5 : tie.Need-returns-5
 returns-5 c =
-    let l = c .before in
-    let k = l .before in
-    let q = k .before in
-    call-refused 11
-    (simp (
-      eq-eqb _ _ (q .before .if1 .left),
-      eq-eqb _ _ (q .if2 .left),
-      eq-eqb _ _ (k .if3 .left),
-      le-ltb _ _ (l .if4 .left),
-      lt-ltb _ _ (c .if5 .taken),
-    ))
-    (refl, (refl, tt))
+    let a = c .before .before .before .before .before .before .before .before .args in
+    call-refused 11 (read-bytes-unfit (a .words .now) (a .«data» .now) (a .verdicts .now) (λ e f o l m. omega (arith, m, c .if5 .taken))) (refl, (refl, tt))
 
 read-all-requires : tie.Need-read-all-requires
 read-all-requires c κs =
@@ -59,14 +50,10 @@ returns-6 c =
     let l = e .before in
     let k = l .before in
     let q = k .before in
+    let a = q .before .before .before .before .before .args in
     call-done
-    (simp (
-      eq-eqb _ _ (q .before .if1 .left),
-      eq-eqb _ _ (q .if2 .left),
-      eq-eqb _ _ (k .if3 .left),
-      le-ltb _ _ (l .if4 .left),
-      le-ltb _ _ (e .if5 .left),
-    ))
+    (read-bytes-fit (a .words .now) (a .«data» .now) (a .verdicts .now) (omega (arith, q .before .if1 .left)) (omega (arith, q .if2 .left))
+    (omega (arith, k .if3 .left)) (omega (arith, l .if4 .left)) (omega (arith, e .if5 .left)))
     (r .read-all .ensures)
 
 pub read-pairs-bytes-spec : {M : Type 1} → statement M

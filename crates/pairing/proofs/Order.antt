@@ -17,7 +17,10 @@ use Rattle.laws.specs.Lent.{none, next}
 use Rattle.laws.proofs.Bits.{one-bits}
 use Rattle.frame.specs.Line.{lineBit}
 use Rattle.pairing.specs.Order.{Pair, both, inTurn, origin, Whole, Interleaved}
-use Rattle.pairing.specs.Claims.{OneSending, OneTaking, LineOrder}
+use Rattle.pairing.specs.Claims.{AThenB, OneSending, OneTaking, LineOrder}
+
+pub a-then-b : AThenB
+a-then-b i h = (omega arith, omega arith)
 
 -- bit n of a line, from the number it is in and its place there
 pub line-at : (l : List ℕ) (n i p : ℕ) → n / 64 ≡ i → n % 64 ≡ p → lineBit l n ≡ bit (getD l i 0) (63 - p)

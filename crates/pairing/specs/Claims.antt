@@ -1,5 +1,6 @@
 -- What is proved of pairs on the line; proofs/ has each under the same name in lower case.
 -- ┌─────────────────┬─────────────────────────────────────────────────────────────┐
+-- │ AThenB          │ position i of A goes out as bit 2 i, and of B as the next   │
 -- │ NoneLeftOut     │ an even list is the list of its pairs                       │
 -- │ OneSending      │ two frames have one pair of words                           │
 -- │ OneTaking       │ two words are those of one pair of frames                   │
@@ -31,6 +32,9 @@ use Rattle.pairing.specs.Order.{Pair, both, pairsOf, inTurn, origin, Int
 use Rattle.pairing.specs.Answers.{ReadBoth, ComesBack}
 use Rattle.pairing.specs.Bursts.{longestBurst, Burst, Flipped}
 use Rattle.pairing.specs.Runs.{alternating, RunsWithin, longestPairRun}
+
+abbrev pub AThenB : Type 0
+AThenB = (i : ℕ) → i < 64 → (origin (2 * i) ≡ i) × (origin (2 * i + 1) ≡ 64 + i)
 
 abbrev pub NoneLeftOut : Type 0
 NoneLeftOut = (l : List ℕ) → length l % 2 ≡ 0 → inTurn (pairsOf l) ≡ l

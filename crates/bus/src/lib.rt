@@ -1,4 +1,6 @@
 // Bus-invert: a sender that turns the data over where that changes fewer wires, and the receiver that undoes it.
+#![tactic(auto)]
+
 ghost use Rattle.std.specs.Prelude.{◌≡◌, true, ◌+◌, ◌*◌, ◌≤◌, ◌<◌, ◌^◌};
 ghost use Rattle.bus.specs.Wires as bits;
 ghost use Rattle.bus.specs.Rule as rule;
@@ -9,7 +11,7 @@ ghost use Rattle.bus.specs.Calls.{Starts, Sends, Receives};
 const WIDEST: u32 = 31;
 
 // What the sender drives: `width` data wires, the lowest wire the lowest bit, and the invert wire.
-#[derive(Drop)]
+#[derive(Clone, Copy)]
 pub struct Bus {
     pub width: u32,
     pub wires: u32,
@@ -17,14 +19,14 @@ pub struct Bus {
 }
 
 // The state that the bus now has.
-#[derive(Drop)]
+#[derive(Clone, Copy)]
 pub enum Driven {
     Now(Bus),
     Refused(u8),
 }
 
 // The data that the sender was given.
-#[derive(Drop)]
+#[derive(Clone, Copy)]
 pub enum Received {
     Word(u32),
     Refused(u8),

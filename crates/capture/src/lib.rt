@@ -1,4 +1,5 @@
 // Capture files: written from lane, frames and notes, read back, or refused.
+#![tactic(auto)]
 ghost use Rattle.laws.specs.Lent.{◌to◌};
 ghost use Rattle.capture.specs.Answers.{filed, answer};
 ghost use Rattle.capture.specs.Calls.{Writes, Heads, Reads, HandsNotes};
@@ -25,20 +26,20 @@ pub const MOST_FRAMES: usize = 8000;
 const TRAILER_BYTES: usize = 24;
 
 // The length of a file that was written.
-#[derive(Drop)]
+#[derive(Clone, Copy)]
 pub enum Filed {
     Length(usize),
     Refused(u8),
 }
 
 // What a trailer says: the lane, and how many frames there are.
-#[derive(Drop)]
+#[derive(Clone, Copy)]
 pub struct Label {
     pub lane: u32,
     pub count: usize,
 }
 
-#[derive(Drop)]
+#[derive(Clone, Copy)]
 pub enum Labelled {
     Found(Label),
     Refused(u8),

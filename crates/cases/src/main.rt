@@ -25,6 +25,7 @@
 //                   eights, and from its bytes. Every byte of the outputs is shown where c is 1
 // 16 pairs read     lengths of the lists a, data as numbers, b, data as bytes, and c, verdicts; the words are the first part: read as
 //                   numbers and as bytes. Every byte of the lists is shown where d is 1
+#![tactic(auto)]
 mod blocks;
 mod captures;
 mod copies;

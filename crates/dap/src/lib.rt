@@ -1,4 +1,6 @@
 // Duplicate-add-parity: two copies of up to 64 bytes and the parity of one, by which a single damaged bit is found.
+#![tactic(auto)]
+
 ghost use Rattle.std.specs.Prelude.{◌≡◌, ◌&&◌, ◌++◌, ◌≤◌, leb, length, drop};
 ghost use Rattle.dap.specs.Copies.{most_copied, weight, diffs};
 ghost use Rattle.dap.specs.Answers.{judged};
@@ -10,13 +12,13 @@ ghost use Rattle.dap.specs.Parts.{judgement};
 const MOST_COPIED: usize = 64;
 
 // The parity of what was copied.
-#[derive(Drop)]
+#[derive(Clone, Copy)]
 pub enum Made {
     Parity(u8),
     Refused(u8),
 }
 
-#[derive(Drop)]
+#[derive(Clone, Copy)]
 pub enum Damage {
     Nothing,
     FirstCopy,
@@ -25,7 +27,7 @@ pub enum Damage {
 }
 
 // What is damaged among two copies and their parity.
-#[derive(Drop)]
+#[derive(Clone, Copy)]
 pub enum Judged {
     Found(Damage),
     Refused(u8),

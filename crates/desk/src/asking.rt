@@ -1,7 +1,7 @@
 // The data word that division is asked for.
 
 // What the input asks for: a number, or nothing that is one.
-#[derive(Drop)]
+#[derive(Clone, Copy)]
 pub(crate) enum Asked {
     Word(u64),
     Nothing,

@@ -8,7 +8,7 @@ use lane::{Counted, Totals};
 use tally::Tally;
 
 // What a run has come to: the totals so far, those of the whole input, or why it stopped.
-#[derive(Drop)]
+#[derive(Clone, Copy)]
 pub(crate) enum State {
     More(Totals),
     Done(Totals),

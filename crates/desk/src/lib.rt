@@ -1,4 +1,5 @@
 // The programs for users. An entry does the whole of its program's work and answers the status.
+#![tactic(auto)]
 ghost use Rattle.desk.specs.Calls.{Status};
 
 mod asking;

@@ -3,7 +3,7 @@ use libc::STDOUT_FILENO;
 use printout::Told;
 
 // Whether the whole file is written, and what could not be done.
-#[derive(Drop)]
+#[derive(Clone, Copy)]
 pub(crate) enum Out {
     Whole,
     Unopened,
@@ -32,7 +32,7 @@ fn told_head(frames: u64, altered: u64, refused: u64) -> bool {
 }
 
 // How far the account has come, or that a line of it is not written.
-#[derive(Drop)]
+#[derive(Clone, Copy)]
 enum Telling {
     On(Told),
     Lost,

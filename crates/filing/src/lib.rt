@@ -1,1 +1,2 @@
 // What a capture file is and what it says: definitions and laws in specs/ and proofs/, no code.
+#![tactic(auto)]

@@ -57,7 +57,7 @@ pub(crate) fn chosen(block: u16) -> u16
 }
 
 // What `nearest` says of each of the four symbols.
-#[derive(Drop)]
+#[derive(Clone, Copy)]
 pub(crate) struct Nears {
     pub(crate) first: u16,
     pub(crate) second: u16,

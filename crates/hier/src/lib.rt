@@ -1,4 +1,5 @@
 // The hierarchical code 4c2 on four wires: seven data bits as four symbols of two ones each, and back with up to two flips.
+#![tactic(auto)]
 ghost use Rattle.std.specs.Prelude.{◌≡◌, ◌<◌};
 ghost use Rattle.block.specs.Blocks.{code_of};
 ghost use Rattle.hier.specs.Calls.{data_end, Makes, Reads};
@@ -9,13 +10,13 @@ mod symbols;
 use symbols::symbol_of;
 
 // The block of the data.
-#[derive(Drop)]
+#[derive(Clone, Copy)]
 pub enum Coded {
     Block(u16),
     Refused(u8),
 }
 
-#[derive(Drop)]
+#[derive(Clone, Copy)]
 pub struct Decoded {
     pub data: u8,
     // bits
@@ -23,7 +24,7 @@ pub struct Decoded {
 }
 
 // What stands in sixteen bits.
-#[derive(Drop)]
+#[derive(Clone, Copy)]
 pub enum Reading {
     Word(Decoded),
     Refused(u8),

@@ -1,10 +1,11 @@
 // What programs read, a buffer at a time.
+#![tactic(auto)]
 ghost use Rattle.std.specs.Prelude.{◌≡◌};
 ghost use Rattle.input.specs.Calls.{Fits};
 ghost use Rattle.input.specs.Parts.{negative, came_of, step_of};
 
 // What became of a buffer: the input filled it, or ended after so many bytes, or could not be read.
-#[derive(Drop)]
+#[derive(Clone, Copy)]
 pub enum Input {
     Full,
     Last(usize),
@@ -12,7 +13,7 @@ pub enum Input {
 }
 
 // What a read comes to: so many bytes are there and more may come, or the buffer is done with.
-#[derive(Drop)]
+#[derive(Clone, Copy)]
 enum Step {
     More(usize),
     Over(Input),

@@ -1,4 +1,5 @@
 // The count of a lane: bytes to frames, frames to verdicts, pad flags and check flips, these to the tally.
+#![tactic(auto)]
 ghost use Rattle.std.specs.Prelude.{◌≡◌, true, ◌/◌, ◌%◌, length};
 ghost use Rattle.laws.specs.Lent.{lent};
 ghost use Rattle.tally.specs.Ranges.{in_range};
@@ -10,7 +11,7 @@ ghost use Rattle.lane.specs.Parts.{Room, SeesBy, Sees, totalled, StaysIn};
 use tally::{Added, HowMany, Tally};
 
 // A tally, how many frames it has counted, and the bytes after the last whole frame.
-#[derive(Drop)]
+#[derive(Clone, Copy)]
 pub struct Totals {
     pub tally: Tally,
     pub frames: u64,
@@ -19,7 +20,7 @@ pub struct Totals {
 
 // The totals with a piece's frames counted, or 12, 11, 20. Only the first holds a state: after a refusal the caller still has the one
 // it passed.
-#[derive(Drop)]
+#[derive(Clone, Copy)]
 pub enum Counted {
     Next(Totals),
     Refused(u8),

@@ -1,4 +1,5 @@
 // The maker of frames: of one data word, of a list, of a list of bytes.
+#![tactic(auto)]
 ghost use Rattle.std.specs.Prelude.{◌≡◌};
 ghost use Rattle.paper.specs.Answer.{listed};
 ghost use Rattle.laws.specs.Lent.{◌to◌};
@@ -15,7 +16,7 @@ mod lists;
 pub use bytes::make_bytes;
 
 // What making a frame gives: the frame, or 11.
-#[derive(Drop)]
+#[derive(Clone, Copy)]
 pub enum Making {
     Frame(u64),
     Refused(u8),

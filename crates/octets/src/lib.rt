@@ -1,4 +1,6 @@
 // Bytes and numbers, highest byte first: 64-bit numbers, eight bytes each, and a number of any width at any place.
+#![tactic(auto)]
+
 ghost use Rattle.std.specs.Prelude.{◌≡◌, ◌+◌, ◌*◌, ◌≤◌, ◌<◌, ◌^◌, length, get_or};
 ghost use Rattle.radix.specs.Octets.{joined, numbers_of, eight, stored};
 

@@ -8,7 +8,7 @@ ghost use Rattle.octets.specs.Calls.{there, inside, Gets, Puts};
 use paper::Listed;
 
 // The number, or 12 where its bytes are not all there.
-#[derive(Drop)]
+#[derive(Clone, Copy)]
 pub enum Got {
     Number(u64),
     Refused(u8),

@@ -1,4 +1,5 @@
 // Pairs for bursts: two frames go out bit by bit in turn, as two words, and are taken apart and read again.
+#![tactic(auto)]
 ghost use Rattle.paper.specs.Answer.{listed};
 ghost use Rattle.laws.specs.Lent.{◌to◌};
 ghost use Rattle.pairing.specs.Order.{Interleaved};
@@ -13,7 +14,7 @@ mod lists;
 pub use bytes::{make_pairs_bytes, read_pairs_bytes};
 
 // Two frames, A and B; or the two words in which they go out.
-#[derive(Drop)]
+#[derive(Clone, Copy)]
 pub struct Two {
     pub first: u64,
     pub second: u64,

@@ -1,4 +1,6 @@
 // The numbers that the paper fixes for more than one crate: its refusals and its limits. specs/Numbers has them by the same names.
+#![tactic(auto)]
+
 ghost use Rattle.std.specs.Prelude.{◌≡◌};
 ghost use Rattle.paper.specs.Answer.{listed, number_of};
 
@@ -31,7 +33,7 @@ pub const MOST_BYTES: usize = 65536;
 pub const MOST_COUNTED: u64 = 9007199254740991;
 
 // What a call answers that leaves its values in lent lists: done, or the number of the refusal.
-#[derive(Drop)]
+#[derive(Clone, Copy)]
 pub enum Listed {
     Done,
     Refused(u8),

@@ -13,7 +13,7 @@ use crate::steps;
 use paper::{ALL_ZERO, MOST_BYTES, MOST_COUNTED, OUTSIDE, PAST_COUNT, UNFIT};
 
 // The pattern's number is its length. The bits that came, up to that many, stand low in the register, the oldest highest.
-#[derive(Drop)]
+#[derive(Clone, Copy)]
 pub struct Counter {
     pub pattern: u8,
     pub filled: u64,
@@ -22,14 +22,14 @@ pub struct Counter {
     pub errors: u64,
 }
 
-#[derive(Drop)]
+#[derive(Clone, Copy)]
 pub enum Opened {
     Fresh(Counter),
     Refused(u8),
 }
 
 // Only an accepting answer holds a state: after a refusal the caller still has the one it passed.
-#[derive(Drop)]
+#[derive(Clone, Copy)]
 pub enum Fed {
     Counted(Counter),
     Refused(u8),

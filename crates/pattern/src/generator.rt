@@ -9,20 +9,20 @@ use crate::steps;
 use paper::{ALL_ZERO, MOST_BYTES, OUTSIDE, UNFIT};
 
 // The pattern's number is its length, 11 or 31. The register holds its last bits, the oldest highest.
-#[derive(Drop)]
+#[derive(Clone, Copy)]
 pub struct Generator {
     pub pattern: u8,
     pub register: u64,
 }
 
-#[derive(Drop)]
+#[derive(Clone, Copy)]
 pub enum Started {
     Ready(Generator),
     Refused(u8),
 }
 
 // Only an accepting answer holds a state: after a refusal the caller still has the one it passed.
-#[derive(Drop)]
+#[derive(Clone, Copy)]
 pub enum Filled {
     Advanced(Generator),
     Refused(u8),

@@ -1,4 +1,5 @@
 // Test patterns: the generator, the counter of errors and its report.
+#![tactic(auto)]
 mod counter;
 mod generator;
 mod range;

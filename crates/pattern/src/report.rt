@@ -10,7 +10,7 @@ use crate::counter::Counter;
 use crate::range;
 use paper::{NOTHING_COMPARED, OUTSIDE};
 
-#[derive(Drop)]
+#[derive(Clone, Copy)]
 pub enum Report {
     // Errors were found: their ratio to the bits.
     Measured {

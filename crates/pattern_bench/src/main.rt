@@ -1,5 +1,6 @@
 // Work for a count of instructions. The first byte on standard input says what to do, f or c with pattern 11, F or C with
 // pattern 31: fill or count. Each byte after it asks for a round of 4,096 bytes.
+#![tactic(auto)]
 use libc::{STDIN_FILENO, STDOUT_FILENO};
 use pattern::{Counter, Fed, Filled, Generator, Opened, Started};
 

@@ -7,14 +7,14 @@ use crate::{line, named, put};
 use wording::Notice;
 
 // How many frames of each kind have been told.
-#[derive(Drop)]
+#[derive(Clone, Copy)]
 pub struct Told {
     pub altered: usize,
     pub refused: usize,
 }
 
 // The length of a line, and how many have been told after it.
-#[derive(Drop)]
+#[derive(Clone, Copy)]
 pub struct Step {
     pub length: usize,
     pub told: Told,

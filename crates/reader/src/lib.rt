@@ -1,4 +1,5 @@
 // The reader of frames: of any 64 received bits, of a list, of a list of bytes.
+#![tactic(auto)]
 ghost use Rattle.std.specs.Prelude.{◌≡◌, length};
 ghost use Rattle.paper.specs.Answer.{listed};
 ghost use Rattle.laws.specs.Lent.{◌to◌};
@@ -21,7 +22,7 @@ pub use bytes::read_bytes;
 pub use sight::{Sight, sight_by};
 
 // The places of the flips that were undone, the lower first.
-#[derive(Drop)]
+#[derive(Clone, Copy)]
 pub enum Flips {
     Nowhere,
     One(u64),
@@ -29,7 +30,7 @@ pub enum Flips {
 }
 
 // What a lawful word within two flips says of the frame that was received. The check flips are those in positions 51 to 62.
-#[derive(Drop)]
+#[derive(Clone, Copy)]
 pub struct Word {
     pub data: u64,
     pub flips: Flips,
@@ -38,7 +39,7 @@ pub struct Word {
 }
 
 // What reading a frame finds: a lawful word, or 13, or 14.
-#[derive(Drop)]
+#[derive(Clone, Copy)]
 pub enum Reading {
     Lawful(Word),
     Refused(u8),

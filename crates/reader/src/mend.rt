@@ -15,7 +15,7 @@ use crate::{Reading, said};
 // The entry of no flips.
 const NO_FLIPS: u64 = 4095;
 
-#[derive(Drop)]
+#[derive(Clone, Copy)]
 pub(crate) struct Mended {
     pub(crate) clean: u64,
     pub(crate) entry: u64,
@@ -23,7 +23,7 @@ pub(crate) struct Mended {
     pub(crate) runs: u64,
 }
 
-#[derive(Drop)]
+#[derive(Clone, Copy)]
 pub(crate) enum Mending {
     Near(Mended),
     Refused(u8),

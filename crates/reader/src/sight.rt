@@ -14,7 +14,7 @@ use crate::sums::sums_by;
 
 // The data of a frame, 0 where it is refused; its verdict byte: 0, 1 or 2 flips, 13 or 14; its pad flag, 1 for wrong, and its check
 // flips, both 0 where it is refused.
-#[derive(Drop)]
+#[derive(Clone, Copy)]
 pub struct Sight {
     pub data: u64,
     pub verdict: u8,

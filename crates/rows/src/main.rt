@@ -1,4 +1,5 @@
 // Runs the rows of the paper's bench numbers, and the examples that users check by hand, through the calls.
+#![tactic(auto)]
 use libc::STDOUT_FILENO;
 use maker::Making;
 use reader::{Flips, Reading};

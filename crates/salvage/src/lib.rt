@@ -1,4 +1,5 @@
 // Salvage of a capture: each readable frame becomes its clean frame, and three lists tell what was altered, where, and what is refused.
+#![tactic(auto)]
 ghost use Rattle.std.specs.Prelude.{◌≡◌, ◌/◌, ◌≤◌, length};
 ghost use Rattle.laws.specs.Lent.{◌to◌, lent};
 ghost use Rattle.salvage.specs.Calls.{answer, Salvages};
@@ -10,13 +11,13 @@ mod frames;
 mod marks;
 
 // How many frames were altered, and how many are refused.
-#[derive(Drop)]
+#[derive(Clone, Copy)]
 pub struct Counts {
     pub altered: usize,
     pub refused: usize,
 }
 
-#[derive(Drop)]
+#[derive(Clone, Copy)]
 pub enum Salvaged {
     Done(Counts),
     Refused(u8),

@@ -9,7 +9,7 @@ ghost use Rattle.salvage.specs.Parts.{marks_of};
 
 use reader::{Flips, Reading, Word};
 
-#[derive(Drop)]
+#[derive(Clone, Copy)]
 pub(crate) struct Marks {
     pub(crate) places: u64,
     pub(crate) refused: bool,

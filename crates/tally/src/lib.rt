@@ -1,4 +1,6 @@
 // The tally: counts over the verdicts of frames, their pad flags and their check flips.
+#![tactic(auto)]
+
 ghost use Rattle.std.specs.Prelude.{◌≡◌, [], ◌∷◌};
 ghost use Rattle.tally.specs.Counts.{fresh};
 ghost use Rattle.tally.specs.Answers.{answer, how_many};
@@ -9,7 +11,7 @@ mod range;
 
 // How many frames were clean, had one or two flips, were 13 or 14; of the accepted ones, how many had a wrong pad; how many of all their
 // flips were in check bits; and the unbroken stretch of refused frames up to now, and the longest one.
-#[derive(Drop)]
+#[derive(Clone, Copy)]
 pub struct Tally {
     pub clean: u64,
     pub one: u64,
@@ -23,14 +25,14 @@ pub struct Tally {
 }
 
 // The next tally, or 12, 11, 20. Only the first holds a state: after a refusal the caller still has the one it passed.
-#[derive(Drop)]
+#[derive(Clone, Copy)]
 pub enum Added {
     Next(Tally),
     Refused(u8),
 }
 
 // The frames that a tally has counted, or 11.
-#[derive(Drop)]
+#[derive(Clone, Copy)]
 pub enum HowMany {
     Frames(u64),
     Refused(u8),

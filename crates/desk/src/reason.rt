@@ -43,14 +43,11 @@ impl Reason {
 
     // The text ahead of the number that std puts behind it.
     pub(crate) fn text(&self) -> &[u8] {
-        let behind = b" (os error ";
-        let mut end = 0;
-        while end < self.length {
-            if self.bytes[end..].starts_with(behind) {
-                break;
+        for end in 0..ROOM {
+            if end == self.length || self.bytes[end..].starts_with(b" (os error ") {
+                return &self.bytes[..end];
             }
-            end += 1;
         }
-        &self.bytes[..end]
+        &self.bytes[..]
     }
 }

@@ -1,15 +1,11 @@
--- `left_after` puts together what `LeadingPart` names. The shifts lose nothing.
-use mathlib.Core.Path.{◌≡◌, sym, ap, ap₂, ◌∙◌, subst}
-use Prim.Native.Nat.{ℕ, ◌+◌, ◌-◌, ◌*◌, ◌/◌, ◌%◌, ◌^◌, ◌<◌, ◌≤◌}
+-- The shifts lose nothing.
+use Rattle.std.proofs.Common.{◌≡◌, ℕ, ◌+◌, ◌-◌, ◌*◌, ◌/◌, ◌%◌, ◌^◌, ◌<◌, ◌≤◌, sym, ap, ap₂, ◌∙◌, subst, arith}
+use Rattle.std.proofs.Math.Pow.{pow_mono, shl_lt, shl_exact, split}
 use native.Mathlib.Nat.{mod-eq_of_lt}
-use native.Mathlib.Omega.{arith}
-use borrow.Author.Rules.{rules}
-use lib.Pow.{pow_mono, shl_lt, shl_exact, split}
 use Rattle.poly.specs.Poly.{rem}
 use Rattle.poly.proofs.Division.{rem_lt}
 use Rattle.poly.proofs.Steps.{leading_part}
-use Rattle.desk.proofs.steps.left_after.Statement.{statement}
-use Rattle.desk.proofs.steps.left_after.Tie as tie
+use Rattle.desk.proofs.steps.left_after.Goals as goal
 
 -- the leading part, in its place
 placed : (v m : ℕ) → v < 2 ^ 63 → v / 2 ^ m * 2 ^ m % 2 ^ 64 ≡ v / 2 ^ m * 2 ^ m
@@ -22,24 +18,18 @@ rest v m h = omega (arith, placed v m h, split v m)
 moved : (r m : ℕ) → r < 4096 → m ≤ 51 → (r * 2 ^ m % 2 ^ 64 ≡ r * 2 ^ m) × (r * 2 ^ m < 2 ^ 63)
 moved r m h k = (shl_exact 12 m 64 h (omega arith), omega (arith, shl_lt 12 m h, pow_mono {i = 12 + m} {j = 63} (omega arith)))
 
-sub-result : tie.Need-overflow-sub-result
-sub-result c = let v = c.before.args.v in let m = 51 - c.before.args.j in omega (arith, placed v m c.before.requires.0, split v m)
-
-add-result : tie.Need-overflow-add-result
-add-result c =
+pub overflow_add-result : goal.overflow_add-result
+overflow_add-result c =
     let few = subst (λ (x : ℕ). x < 4096) (sym c.remainder.ensures) (rem_lt 63 _) in
-    let fits = moved c.remainder.result (51 - c.before.args.j) few (omega arith) in
+    let fits = moved c.remainder.result (51 - c.args.j) few (omega arith) in
     omega (arith, fits.0, fits.1)
 
-returns : tie.Need-returns
+pub returns : goal.returns
 returns c =
-    let v = c.before.args.v in
-    let j = c.before.args.j in
+    let v = c.args.v in
+    let j = c.args.j in
     let m = 51 - j in
-    let h = c.before.requires.0 in
+    let h = c.requires.0 in
     ap₂ (λ (x y : ℕ). x * 2 ^ m % 2 ^ 64 + y) c.remainder.ensures (rest v m h)
     ∙ ap (λ (x : ℕ). x + v % 2 ^ m) (moved (rem 63 (v / 2 ^ m)) m (rem_lt 63 (v / 2 ^ m)) (omega arith)).0
     ∙ sym (leading_part v j m h (omega arith))
-
-pub left-after-spec : {M : Type 1} → statement M
-left-after-spec = tie.close (tie.spec (search rules) (search rules) (search rules) (search rules) (search rules) sub-result add-result returns)

@@ -1,0 +1,17 @@
+-- The shift loses nothing, and what is left is the law `fed-filling-by`.
+use mathlib.Core.Path.{sym, ap, ◌∙◌}
+use Prim.Native.Nat.{ℕ, ◌+◌}
+use native.Mathlib.Omega.{arith}
+use borrow.Author.Rules.{rules}
+use lib.Pow.{pow_mono, shl_lt, shl_exact}
+use Rattle.pattern.specs.Counting.{count_of, holding}
+use Rattle.sequence.proofs.Whole.{fed_entering_by}
+use Rattle.pattern.proofs.counter.enter_bits.Goals as goal
+
+pub returns : goal.returns
+returns c =
+    let a = c.args in
+    let s = a.c in
+    ap (λ (x : ℕ). record { pattern = s.pattern; filled = s.filled + a.k; register = x + a.n; bits = s.bits; errors = s.errors })
+    (shl_exact {a = s.register} s.filled a.k 64 c.requires.register (omega arith))
+    ∙ ap (holding s.pattern) (sym (fed_entering_by a.l a.t (count_of s) a.n a.k c.requires.places c.requires.bits))

@@ -1,0 +1,19 @@
+-- The shifts lose nothing, and what is left is the law `onward_number`.
+use mathlib.Core.Path.{◌≡◌, sym, ap, ap₂, ◌∙◌, subst}
+use Prim.Native.Nat.{ℕ, ◌+◌, ◌*◌, ◌%◌, ◌^◌, ◌<◌}
+use native.Mathlib.Omega.{arith}
+use borrow.Author.Rules.{rules}
+use lib.Pow.{pow_pos, pow_mono, shl_lt, shl_exact}
+use Rattle.sequence.specs.Sequence.{onward}
+use Rattle.sequence.proofs.Numbers.{one_shl}
+use Rattle.sequence.proofs.Steps.{onward_number, onward_lt}
+use Rattle.pattern.proofs.steps.moved.Goals as goal
+
+pub returns : goal.returns
+returns c =
+    let a = c.args in
+    let e : ((a.r * 2 ^ a.k) % 2 ^ 64 + a.n) % (1 * 2 ^ a.l % 2 ^ 64) ≡ onward a.l a.t a.k a.r =
+    ap₂ (λ (x m : ℕ). (x + a.n) % m) (shl_exact {a = a.r} a.l a.k 64 c.requires.0 (omega arith)) (one_shl a.l (omega arith))
+    ∙ ap (λ (n : ℕ). (a.r * 2 ^ a.k + n) % 2 ^ a.l) c.requires.3
+    ∙ sym (onward_number a.l a.t a.k a.r c.requires.0) in
+    (e, subst (λ (n : ℕ). n < 2 ^ a.l) (sym e) (onward_lt a.l a.t a.k a.r c.requires.0))

@@ -115,7 +115,7 @@ pub one_notes : OneNotes
 one_notes f r s (inl (c, h, (x, y))) (inl (d, i, (z, w))) =
     let e = one_holds f.now c d h i in (
       x ∙ ap (λ (k : Capture). k.notes) e ∙ sym z,
-      y ∙ ap (λ (k : Capture). (f.ptr.0, length k.frames * 8 + f.ptr.1)) e ∙ sym w,
+      y ∙ ap (λ (k : Capture). (f.ref_ptr.0, length k.frames * 8 + f.ref_ptr.1)) e ∙ sym w,
     )
 one_notes f r s (inl (c, h, p)) (inr (n, k, q)) = absurd (not_both f.now n k c h)
 one_notes f r s (inr (n, k, p)) (inl (d, i, q)) = absurd (not_both f.now n k d i)

@@ -50,7 +50,7 @@ fn put_frame(place: &mut [u8], frame: u64)
 // Each frame straight into its place: frame n is lent the eight bytes from 8n on.
 pub(crate) fn put_frames(frames: &[u64], out: &mut [u8])
     requires { length frames.now * 8 ≤ length out.old }
-    ensures { out.new ≡ bytes_of frames.now over (λ x. x.now) out.entry }
+    ensures { out.new ≡ bytes_of frames.now over out.old }
 {
     let mut n = 0;
     while n < frames.len() {
@@ -63,7 +63,7 @@ pub(crate) fn put_frames(frames: &[u64], out: &mut [u8])
 // Bytes at the start of a lent output.
 pub(crate) fn copy(from: &[u8], to: &mut [u8])
     requires { length from.now ≤ length to.old }
-    ensures { to.new ≡ from.now over (λ x. x.now) to.entry }
+    ensures { to.new ≡ from.now over to.old }
 {
     let mut i = 0;
     while i < from.len() {
@@ -106,7 +106,7 @@ pub(crate) fn fill(fits: Filed, lane: u32, frames: &[u64], notes: &[u8], out: &m
 // The first frames of a file, at the front of a lent list.
 pub(crate) fn take_frames(file: &[u8], count: usize, frames: &mut [u64])
     requires { (count ≤ length file.now / 8) × (count ≤ length frames.old) }
-    ensures { frames.new ≡ take count (numbers_of file.now) over (λ x. x.now) frames.entry }
+    ensures { frames.new ≡ take count (numbers_of file.now) over frames.old }
 {
     let mut n = 0;
     while n < count {

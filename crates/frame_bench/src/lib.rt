@@ -90,7 +90,7 @@ fn number_of(r: Labelled) -> u8
 #[unsafe(no_mangle)]
 pub extern "C" fn bench_capture_read(file: &[u8], frames: &mut [u64]) -> u8
     ensures { FileCall (leb most_frames (length frames.old))
-        (λ c u. frames.new ≡ c.frames over (λ x. x.now) frames.entry) (frames.new ≡ frames.old)
+        (λ c u. frames.new ≡ c.frames over frames.old) (frames.new ≡ frames.old)
         file.now (numbered result) }
 {
     number_of(capture::read(file, frames))

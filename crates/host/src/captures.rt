@@ -25,7 +25,7 @@ fn length_of(f: Filed) -> u64
 // Lane and count in the twelve bytes of the answer.
 fn lay_label(answer: &mut [u8], h: Label)
     requires { 12 ≤ length answer.old }
-    ensures { answer.new ≡ label_bytes h.lane h.count over (λ x. x.now) answer.entry }
+    ensures { answer.new ≡ label_bytes h.lane h.count over answer.old }
 {
     octets::put(answer, 0, 4, h.lane as u64);
     octets::put(answer, 4, 8, h.count as u64);

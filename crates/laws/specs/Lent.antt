@@ -21,7 +21,7 @@
 -- │ short xs out     │ the output is shorter than the input                           │
 -- └──────────────────┴────────────────────────────────────────────────────────────────┘
 use Rattle.std.specs.Prelude.{◌≡◌, Bool, List, [], ◌∷◌, ℕ, ltb, length}
-use Rattle.std.specs.Borrow.{Bor}
+use Rattle.std.specs.Borrow.{MutBor}
 use denote.Triple.Both.{Both}
 use Rattle.paper.specs.Answer.{Answer, gives, refused, owed}
 
@@ -31,10 +31,10 @@ pub record Lent : Type 0 where
   pub was : List ℕ
   pub is : List ℕ
 
-abbrev pub ◌to◌ : Bor (List ℕ) → Bor (List ℕ) → Lent
+abbrev pub ◌to◌ : MutBor (List ℕ) → MutBor (List ℕ) → Lent
 a to b = record { was = a.now; is = b.now }
 
-abbrev pub lent : Both (Bor (List ℕ)) (Bor (List ℕ)) → Lent
+abbrev pub lent : Both (MutBor (List ℕ)) (MutBor (List ℕ)) → Lent
 lent s = s.entry to s.exit
 
 unfoldable pub ◌over◌ : List ℕ → List ℕ → List ℕ

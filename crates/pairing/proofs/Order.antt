@@ -107,6 +107,8 @@ in_rest a b l n m e = line_at (a ∷ b ∷ l) n (suc (suc (m / 64))) (m % 64) (o
 
 pub line_order : LineOrder
 line_order [] [] none n h = absurd (not-suc-le-zero h)
+line_order [] (q ∷ qs) e n h = elim e [ ]
+line_order (p ∷ ps) [] e n h = elim e [ ]
 line_order (p ∷ ps) (q ∷ qs) (next r e) n h = by (line_order ps qs e (n - 128)) (dec_le n 127)
   where
     by : (n - 128 < 128 * length ps → line_bit (in_turn qs) (n - 128) ≡ line_bit (in_turn ps) (origin (n - 128)))

@@ -13,23 +13,25 @@ use Rattle.capture.specs.declared.Labelled.TheVariants.{Found, Refused}
 use Rattle.capture.proofs.Calls.{Opened, opened, notes_read}
 use Rattle.capture.proofs.notes.Goals as goal
 
--- what `head` answered, by the case that the match found
-owed : (r : tie.After-head) (s : Labelled) → r.head.result ≡ s → Heads r.args.file.now (answer s)
-owed r s e = subst (λ (x : Labelled). Heads r.args.file.now (answer x)) e r.head.ensures
-
 pub overflow_sub-to : goal.overflow_sub-to
-overflow_sub-to c = omega (arith, ((let it : Opened c.args.file.now c.in-Found.h = opened _ c.in-Found.h (owed c (Found c.in-Found.h) c.in-Found.is) in it)).room)
+overflow_sub-to c = omega (arith, ((let it : Opened c.args.file.now c.in-Found.h = opened _ c.in-Found.h c.in-Found.ensures in it)).room)
 
 pub returns-in-Found : goal.returns-in-Found
 returns-in-Found c =
     let f = c.args.file in
     let n = c.in-Found.h.count in
-    let w = (let it : Opened c.args.file.now c.in-Found.h = opened _ c.in-Found.h (owed c (Found c.in-Found.h) c.in-Found.is) in it) in
+    let w = (let it : Opened c.args.file.now c.in-Found.h = opened _ c.in-Found.h c.in-Found.ensures in it) in
     inl (
       w.capture,
       w.holds,
       (
         notes_read w (length f.now - 24 - n * 8) (omega (arith, w.room)),
-        ap (λ (m : ℕ). (f.ptr.0, m * 8 + f.ptr.1)) (ap (λ (h : Label). h.count) w.label),
+        ap (λ (m : ℕ). (f.ref_ptr.0, m * 8 + f.ref_ptr.1)) (ap (λ (h : Label). h.count) w.label),
       ),
     )
+
+pub slice_bounds-result-count : goal.slice_bounds-result-count
+slice_bounds-result-count c = omega (arith, (let it : Opened c.args.file.now c.in-Found.h = opened _ c.in-Found.h c.in-Found.ensures in it).room)
+
+pub slice_bounds-result-start : goal.slice_bounds-result-start
+slice_bounds-result-start c = omega (arith, (let it : Opened c.args.file.now c.in-Found.h = opened _ c.in-Found.h c.in-Found.ensures in it).room)

@@ -13,6 +13,10 @@ use Rattle.radix.proofs.Stored.{length_eight, length_bytes}
 use Rattle.capture.proofs.Fronts.{part_over, over_again, frame_more}
 use Rattle.capture.proofs.filling.put_frames.Given as goal
 
+pub record Laid (fs o₀ : List ℕ) (n : ℕ) (o : List ℕ) : Type 0 where
+  pub fits : n ≤ length fs
+  pub is : o ≡ bytes_of (take n fs) over o₀
+
 abbrev pub invariant-loop-n : goal.invariant-loop-n
 invariant-loop-n l = Laid l.frames l.initial.out l.n l.out
 

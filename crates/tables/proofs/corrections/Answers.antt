@@ -4,12 +4,8 @@ use Rattle.bch.specs.Corrections.{mask, filled, empty}
 use Rattle.bch.proofs.Rule.{sound?, whole?, is_corrections}
 use Rattle.frame.specs.Sums.{run_sums}
 use Rattle.tables.proofs.Tables.{runs?, is_mend_table}
-use Rattle.tables.proofs.corrections.Statement.{statement}
-use Rattle.tables.proofs.corrections.Tie as tie
+use Rattle.tables.proofs.corrections.Goals as goal
 
-returns : tie.Need-returns
+pub returns : goal.returns
 unfolding sound? whole? filled empty mask run_sums runs?
 returns c = is_mend_table _ (is_corrections _ refl tt refl refl) tt
-
-pub corrections-spec : {M : Type 1} → statement M
-corrections-spec = tie.close (tie.spec returns)

@@ -4,12 +4,8 @@ use Rattle.poly.specs.Poly.{rem}
 use Rattle.frame.specs.Sums.{run_sums, sums}
 use Rattle.tables.proofs.Grown.{row, rows}
 use Rattle.tables.proofs.Tables.{is_byte_sums}
-use Rattle.tables.proofs.byte_sums.Statement.{statement}
-use Rattle.tables.proofs.byte_sums.Tie as tie
+use Rattle.tables.proofs.byte_sums.Goals as goal
 
-returns : tie.Need-returns
+pub returns : goal.returns
 unfolding rem run_sums sums row rows
 returns c = is_byte_sums _ refl refl
-
-pub byte-sums-spec : {M : Type 1} → statement M
-byte-sums-spec = tie.close (tie.spec returns)

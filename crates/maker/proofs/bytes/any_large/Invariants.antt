@@ -1,0 +1,18 @@
+-- `maker::bytes::any_large` meets its contract: what is left holds a value too large where the whole does.
+use mathlib.Core.Path.{◌≡◌, refl, sym, subst, ◌∙◌}
+use mathlib.Core.List.{List}
+use Prim.Native.Nat.{ℕ, ◌-◌, ◌/◌, ◌^◌, ◌≤◌, ◌<◌}
+use native.Mathlib.Omega.{arith}
+use borrow.Author.Rules.{rules}
+use lib.ListN.{length, drop}
+use Rattle.radix.specs.Octets.{numbers_of}
+use Rattle.radix.proofs.Joined.{numbers_len}
+use Rattle.maker.specs.Lists.{any_too_large}
+use Rattle.maker.proofs.Scan.{large_here, large_further, large_nowhere}
+use Rattle.maker.proofs.bytes.any_large.Given as goal
+
+abbrev pub invariant-loop-i : goal.invariant-loop-i
+invariant-loop-i l = (l.i ≤ length l.data / 8) × (any_too_large (drop l.i (numbers_of l.data)) ≡ any_too_large (numbers_of l.data))
+
+abbrev pub decreases-loop-i : goal.decreases-loop-i
+decreases-loop-i l = length l.data / 8 - l.i

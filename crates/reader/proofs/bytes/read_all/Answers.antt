@@ -1,0 +1,10 @@
+-- `reader::bytes::read_all` meets its contract, by the rules of both tables.
+use borrow.Author.Rules.{rules}
+use Rattle.reader.proofs.ByTables.{shown_of_bytes}
+use Rattle.reader.proofs.bytes.read_all.Goals as goal
+
+pub returns : goal.returns
+returns c =
+    let r = c.read_each.ensures in
+    shown_of_bytes c.corrections-c.ensures c.byte_sums-b.ensures c.args.frames.now (λ i. (c.type_inv.frames i).fits) _
+    (r.«data», (r.verdicts, (r.checks, tt)))

@@ -1,0 +1,29 @@
+-- `reader::bytes::read_each` meets its contract: after i turns the bytes of i data words and i verdicts stand at the front, and the
+-- next frame is at hand.
+-- the outputs after i frames
+use mathlib.Core.Path.{◌≡◌, sym, ap, subst, ◌∙◌}
+use mathlib.Core.List.{List}
+use Prim.Native.Nat.{ℕ, ◌+◌, ◌-◌, ◌/◌, ◌≤◌, ◌<◌}
+use native.Mathlib.Omega.{arith}
+use lib.ListN.{length, get_or}
+use Rattle.radix.specs.Octets.{numbers_of}
+use Rattle.radix.proofs.Joined.{numbers_len}
+use Rattle.reader.specs.Answers.{verdict, data_in, checks_in}
+use Rattle.reader.specs.ByTables.{read_by}
+use Rattle.reader.specs.declared.sight.Sight.{Sight}
+use Rattle.reader.proofs.Turns.{ShownBy, BytesBy, shown_none, bytes_none, shown_turn, bytes_turn, shown_end, bytes_end}
+use Rattle.reader.proofs.bytes.read_each.Given as goal
+
+pub record After (c b fs ds₀ vs₀ cs₀ ds vs cs : List ℕ) (i frame : ℕ) : Type 0 where
+  pub here : i ≤ length fs / 8
+  pub «data» : BytesBy c b (numbers_of fs) data_in ds₀ i ds
+  pub verdicts : ShownBy c b (numbers_of fs) verdict vs₀ i vs
+  pub checks : ShownBy c b (numbers_of fs) checks_in cs₀ i cs
+  pub at_hand : frame ≡ get_or (numbers_of fs) i 0
+
+abbrev pub invariant-loop-i : goal.invariant-loop-i
+invariant-loop-i l =
+    After l.c l.b l.frames l.initial.data l.initial.verdicts l.initial.checks l.data l.verdicts l.checks l.i l.frame
+
+abbrev pub decreases-loop-i : goal.decreases-loop-i
+decreases-loop-i l = length l.frames / 8 - l.i

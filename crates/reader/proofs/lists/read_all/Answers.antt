@@ -1,0 +1,10 @@
+-- `reader::lists::read_all` meets its contract, by the rules of both tables.
+use borrow.Author.Rules.{rules}
+use Rattle.reader.proofs.ByTables.{shown_by_tables}
+use Rattle.reader.proofs.lists.read_all.Goals as goal
+
+pub returns : goal.returns
+returns c =
+    let r = c.read_each.ensures in
+    shown_by_tables c.corrections-c.ensures c.byte_sums-b.ensures _ (λ i h. (c.type_inv.frames i).fits) _
+    (r.pads, (r.«data», (r.verdicts, (r.checks, tt))))

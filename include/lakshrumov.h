@@ -1,5 +1,5 @@
 /* Frames of the serial line, pairs of frames and capture files, for host programs in C and C++ on x86-64. Link with liblakshrumov.a or
- * liblakshrumov.so, as `./run --install` lays them down, or with libhost.a, as `rt staticlib host` makes it.
+ * liblakshrumov.so, as `./run --install` lays them down, or with libhost.a, as `tools/program libhost.a` makes it.
  *
  * A frame is 64 line bits held as a 64-bit number, position 0 as its highest bit. A data word is a number below 2^48.
  * A list of 64-bit numbers is a run of bytes, eight bytes a number, highest first. A pair of frames, A and B, is the 128 line bits

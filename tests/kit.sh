@@ -1,13 +1,11 @@
 # shellcheck shell=bash
 # What the run scripts of tests/ share. A script sources this first: it then stands at the root of the repository, and `room` is an empty
 # folder of its own. Programs are built for x86-64 by the kit's own tools.
-# ARCHIVE=path takes another archive of the frame calls than the one `rt staticlib host` makes.
+# ARCHIVE=path takes another archive of the frame calls than the one that tools/program makes.
 archive=${ARCHIVE:+$(readlink -f "$ARCHIVE")}
 name=$(basename "$(dirname "$(readlink -f "$0")")")
 cd "$(dirname "${BASH_SOURCE[0]}")/.." || exit
 kit=$(dirname "$(dirname "$(readlink -f "$(command -v rt)")")")
-machine=$(uname -m)
-own=$kit/on/$machine
 strict=(-O2 -Wall -Wextra -pedantic)
 room=target/tests/$name
 rm -rf "$room"
@@ -27,13 +25,13 @@ build() { # PROGRAM LANGUAGE FILE...: sources of the test's folder, and archives
     local objects=() file
     for file in "${@:3}"; do
         if [[ $file != *.a ]]; then
-            logged compile.log "$own/toolchain/bin/clang" --target=x86_64-unknown-linux-gnu -DLAKSHRUMOV_PLAIN_TYPES -Werror \
+            logged compile.log "$kit/toolchain/bin/clang" --target=x86_64-unknown-linux-gnu -DLAKSHRUMOV_PLAIN_TYPES -Werror \
                 "${strict[@]}" "-std=$2" -c "tests/$name/$file" -o "$room/${file//\//-}.o"
             file=$room/${file//\//-}.o
         fi
         objects+=("$file")
     done
-    logged link.log "$own/bin/rattle-link" --target x86_64-unknown-linux-gnu --toolchain "$own/toolchain" -o "$room/$1" "${objects[@]}"
+    logged link.log "$kit/bin/rattle-link" --target x86_64-unknown-linux-gnu --toolchain "$kit/toolchain" -o "$room/$1" "${objects[@]}"
 }
 
 make_program() { logged program.log tools/program "$@"; } # NAME...: target/programs/NAME, where it is not up to date
@@ -44,11 +42,7 @@ make_archive() { # into archive
     archive=target/staticlib/libhost.a
 }
 
-start() { # PROGRAM [ARG...]: directly on x86-64, elsewhere under the kit's emulator
-    if [ "$machine" = x86_64 ]; then "$@"; else
-        "$own/toolchain/bin/qemu-x86_64" "$own/toolchain/lib/ld-linux-x86-64.so.2" --library-path "$own/toolchain/lib" "$@"
-    fi
-}
+start() { "$@"; } # PROGRAM [ARG...]
 
 same() { # WHAT FILE FILE
     if ! cmp -s "$2" "$3"; then

@@ -1,7 +1,7 @@
 # shellcheck shell=bash disable=SC2154
 # Part of tests/start/run: an installed copy.
 desk=$here/opt/desk
-toolchain=$own/toolchain
+toolchain=$kit/toolchain
 files_of() { (cd "$1" && find . ! -type d -exec cksum {} + | sort -k 3); } # FOLDER
 
 # ---- wrong installs

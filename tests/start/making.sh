@@ -2,7 +2,8 @@
 # Part of tests/start/run: what is made anew and what is not, and interrupts, in a copy of the tree.
 copy=$here/copy
 mkdir -p "$copy" "$here/kit/bin" "$here/given" "$here/tmp"
-cp -R crates crates.txt programs tools run "$copy"
+cp -R crates.txt tools run "$copy"
+tar -c --exclude=out crates | tar -x -C "$copy"
 
 # ---- what is made anew, by a kit of the same identity whose rt keeps what it was called with, and hands out what stands in given/ or fails
 for part in "$kit"/*; do
@@ -11,8 +12,12 @@ done
 cat >"$here/kit/bin/rt" <<END
 #!/bin/sh
 echo "\$1" >>'$here/called'
-echo "rt: the log"
-[ -d '$here/given/bin' ] && mkdir -p target && cp -R '$here/given/.' target
+echo "rt: the log" >&2
+crate=\${PWD##*/}
+for made in "\$crate" "lib\$crate.a"; do
+    [ -e '$here/given/'"\$made" ] && mkdir -p out && cp '$here/given/'"\$made" out && echo "rt: running out/\$crate; or no program" >&2 && exit 0
+done
+exit 1
 END
 chmod +x "$here/kit/bin/rt"
 by_kit() { PATH=$here/kit/bin:$PATH "$@"; }
@@ -22,11 +27,11 @@ called() { # WHEN [WORD...]: rt was, since the last look
     rm -f "$here/called"
     [ "$words" = "${*:2}" ] || stop "$1, rt was called with '$words' and not with '${*:2}'"
 }
-remade() { # WHEN: both programs are, once
-    ends 0 by_kit "$copy/tools/program" rows listing
+remade() { # WHEN: two programs and an archive are, once
+    ends 0 by_kit "$copy/tools/program" rows listing libhost.a
     silent "tools/program"
-    called "$1" check check staticlib
-    ends 0 by_kit "$copy/tools/program" rows listing
+    called "$1" run run lib
+    ends 0 by_kit "$copy/tools/program" rows listing libhost.a
     silent "tools/program"
     [ ! -s "$here/said" ] || stop "tools/program says something of programs that are up to date"
     called "$1, a second time"
@@ -40,33 +45,32 @@ called "in a second start"
 
 ends 1 by_kit "$copy/run" rows
 silent "a start that fails"
-called "in a start that fails" check
+called "in a start that fails" run
 printf '%s\n' "rt: the log" "rows is not proved, so it is not built" >"$room/due"
 same "what a start that fails says" "$here/said" "$room/due"
 [ -z "$(ls -A "$copy/target/programs")" ] || stop "a start that fails leaves something"
 
-mkdir -p "$here/given/bin" "$here/given/staticlib"
-cp target/programs/rows "$here/given/bin"
-cp target/staticlib/libdesk.a "$here/given/staticlib"
+cp target/programs/rows target/programs/listing "$here/given"
+cp target/staticlib/libhost.a "$here/given/libhost_c.a"
 remade "at first"
+same "the archive that was made" "$copy/target/staticlib/libhost.a" target/staticlib/libhost.a
 ends 0 elsewhere by_kit "$copy/run" listing "captures of today/lane 1.bin"
 prints "what was made" captures/example.txt
 touch "$copy/crates/paper/src/lib.rt"
 remade "after a file was written"
 touch -d 2001-01-01 "$copy/crates/paper/src/lib.rt"
 remade "after an older file was brought"
-rm "$copy/crates/rows/stdout"
+: >"$copy/crates/paper/specs/more"
+remade "after a file was added"
+rm "$copy/crates/paper/specs/more"
 remade "after a file was removed"
 touch "$copy/crates.txt"
 remade "after crates.txt was written"
 echo another >"$here/kit/KIT-ID"
 remade "by another kit"
-sed -i 's/return lks_listing()/return 7/' "$copy/programs/listing.c"
-ends 7 by_kit "$copy/run" listing
-called "after a main in C was written"
 
-# ---- interrupts, where all is to be proved, by the kit's own rt
-trap 'kill $(jobs -p) 2>/dev/null || true' EXIT
+# ---- interrupts, where all is to be proved, by the kit's own rt, which has proved no such text yet
+echo '// another text' >>"$copy/crates/paper/src/lib.rt"
 begin() { # WORDS COMMAND...: in the background, into pid, until it has said these words
     : >"$here/said" # the background may be slow to do so, and it would be deaf to INT
     TMPDIR=$here/tmp env --default-signal=HUP,INT,TERM "${@:2}" >"$here/out" 2>"$here/said" </dev/null &
@@ -76,13 +80,7 @@ begin() { # WORDS COMMAND...: in the background, into pid, until it has said the
         sleep 0.1
     done
 }
-running() { # something stands in the copy
-    local at
-    for at in /proc/[0-9]*/cwd; do
-        if [ "$at" -ef "$copy" ]; then return; fi
-    done
-    return 1
-}
+running() { { readlink /proc/[0-9]*/cwd 2>/dev/null || true; } | grep -E "^$copy(/|\$)" >"$here/standing"; } # something stands in the copy
 interrupt() { # SIGNAL STATUS: pid, which is to end so
     local status=0
     kill -s "$1" "$pid"

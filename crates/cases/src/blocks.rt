@@ -1,20 +1,18 @@
 // The hierarchical code's answers.
 use crate::{fields, say};
 use hier::{Coded, Reading};
-use libc::STDOUT_FILENO;
+use std::io::Result;
 
-pub(crate) fn make(head: &[u8]) {
+pub(crate) fn make(rt: &HostRuntime, head: &[u8]) -> Result<()> {
     match hier::make(fields::byte(head, 6)) {
-        Coded::Block(b) => {
-            io::print_hex(STDOUT_FILENO, b as u64, 4);
-        }
-        Coded::Refused(n) => say::refused(n),
+        Coded::Block(b) => print!(rt; "{b:04x}"),
+        Coded::Refused(n) => say::refused(rt, n),
     }
 }
 
-pub(crate) fn read(head: &[u8]) {
+pub(crate) fn read(rt: &HostRuntime, head: &[u8]) -> Result<()> {
     match hier::read((octets::number(head, 6) % 65536) as u16) {
-        Reading::Word(w) => say::two(w.data as u64, w.flips as u64),
-        Reading::Refused(n) => say::refused(n),
+        Reading::Word(w) => say::two(rt, w.data as u64, w.flips as u64),
+        Reading::Refused(n) => say::refused(rt, n),
     }
 }

@@ -1,27 +1,28 @@
 // Duplicate-add-parity's answers. An output holds ee before the call, so that the line shows what was left alone.
 use crate::{fields, say};
 use dap::{Damage, Judged, Made};
+use std::io::Result;
 
-fn parity(r: Made) {
+fn parity(rt: &HostRuntime, r: Made) -> Result<()> {
     match r {
-        Made::Parity(p) => say::number(p as u64),
-        Made::Refused(n) => say::refused(n),
+        Made::Parity(p) => say::number(rt, p as u64),
+        Made::Refused(n) => say::refused(rt, n),
     }
 }
 
 // Copies made, and what the outputs then hold.
-fn made(data: &[u8], first: &mut [u8], second: &mut [u8]) {
-    parity(dap::make(data, first, second));
-    say::bytes(first);
-    say::bytes(second);
+fn made(rt: &HostRuntime, data: &[u8], first: &mut [u8], second: &mut [u8]) -> Result<()> {
+    parity(rt, dap::make(data, first, second))?;
+    say::bytes(rt, first)?;
+    say::bytes(rt, second)
 }
 
-pub(crate) fn make(head: &[u8], data: &[u8]) {
+pub(crate) fn make(rt: &HostRuntime, head: &[u8], data: &[u8]) -> Result<()> {
     let mut first = [0xeeu8; 255];
     let mut second = [0xeeu8; 255];
     let n = fields::within(head, 6, &first);
     let m = fields::within(head, 7, &second);
-    made(data, &mut first[..n], &mut second[..m]);
+    made(rt, data, &mut first[..n], &mut second[..m])
 }
 
 // What is damaged, as the cases number it.
@@ -34,16 +35,21 @@ fn number(d: Damage) -> u64 {
     }
 }
 
-fn judged(r: Judged) {
+fn judged(rt: &HostRuntime, r: Judged) -> Result<()> {
     match r {
-        Judged::Found(d) => say::number(number(d)),
-        Judged::Refused(n) => say::refused(n),
+        Judged::Found(d) => say::number(rt, number(d)),
+        Judged::Refused(n) => say::refused(rt, n),
     }
 }
 
 // The verdict, and what is handed back.
-pub(crate) fn read<'a>(head: &[u8], first: &'a [u8], second: &'a [u8]) {
+pub(crate) fn read<'a>(
+    rt: &HostRuntime,
+    head: &[u8],
+    first: &'a [u8],
+    second: &'a [u8],
+) -> Result<()> {
     let parity = fields::byte(head, 6);
-    judged(dap::verdict(first, second, parity));
-    say::bytes(dap::good(first, second, parity));
+    judged(rt, dap::verdict(first, second, parity))?;
+    say::bytes(rt, dap::good(first, second, parity))
 }

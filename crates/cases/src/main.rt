@@ -26,6 +26,7 @@
 // 16 pairs read     lengths of the lists a, data as numbers, b, data as bytes, and c, verdicts; the words are the first part: read as
 //                   numbers and as bytes. Every byte of the lists is shown where d is 1
 #![tactic(auto)]
+
 mod blocks;
 mod captures;
 mod copies;
@@ -38,80 +39,85 @@ mod tallies;
 mod wires;
 
 use input::Input;
-use libc::{STDERR_FILENO, STDIN_FILENO, STDOUT_FILENO};
+use std::io::{Print, Result};
 
-fn on_lists<'a>(kind: u64, head: &[u8], first: &'a [u8], second: &'a [u8]) {
+fn on_lists<'a>(
+    rt: &HostRuntime,
+    kind: u64,
+    head: &[u8],
+    first: &'a [u8],
+    second: &'a [u8],
+) -> Result<()> {
     match kind {
-        1 => blocks::make(head),
-        2 => blocks::read(head),
-        3 => copies::make(head, first),
-        4 => copies::read(head, first, second),
-        5 => wires::all(head),
-        6 => patterns::start(head),
-        8 => patterns::feed(head, first),
-        9 => tallies::add(head, first, second),
-        11 => captures::write(head, first, second),
-        12 => captures::read(head, first),
-        14 => pairs::both(head),
-        15 => pairs::make(head, first),
-        16 => pairs::read(head, first),
-        _ => tallies::count(head, first),
+        1 => blocks::make(rt, head),
+        2 => blocks::read(rt, head),
+        3 => copies::make(rt, head, first),
+        4 => copies::read(rt, head, first, second),
+        5 => wires::all(rt, head),
+        6 => patterns::start(rt, head),
+        8 => patterns::feed(rt, head, first),
+        9 => tallies::add(rt, head, first, second),
+        11 => captures::write(rt, head, first, second),
+        12 => captures::read(rt, head, first),
+        14 => pairs::both(rt, head),
+        15 => pairs::make(rt, head, first),
+        16 => pairs::read(rt, head, first),
+        _ => tallies::count(rt, head, first),
     }
 }
 
-fn answer(head: &[u8], list: &[u8]) {
+fn answer(rt: &HostRuntime, head: &[u8], list: &[u8]) -> Result<()> {
     let m = fields::within(head, 5, list);
-    on_lists(octets::number(head, 2), head, &list[..m], &list[m..]);
+    on_lists(rt, octets::number(head, 2), head, &list[..m], &list[m..])
 }
 
 // The two kinds that write to what they are lent, or another.
-fn lent(kind: u64, head: &[u8], list: &mut [u8]) {
+fn lent(rt: &HostRuntime, kind: u64, head: &[u8], list: &mut [u8]) -> Result<()> {
     match kind {
-        7 => patterns::fill(head, list),
-        13 => salvages::salvage(head, list),
-        _ => answer(head, list),
+        7 => patterns::fill(rt, head, list),
+        13 => salvages::salvage(rt, head, list),
+        _ => answer(rt, head, list),
     }
 }
 
-fn named(head: &[u8], list: &mut [u8]) {
+fn named(rt: &HostRuntime, head: &[u8], list: &mut [u8]) -> Result<()> {
     let name = io::count(16, head);
-    io::write_all(STDOUT_FILENO, &head[..name]);
-    lent(octets::number(head, 2), head, list);
+    rt.write_all(&head[..name])?;
+    lent(rt, octets::number(head, 2), head, list)
 }
 
 // Whether a head was read whole.
-fn whole(i: Input) -> bool {
+fn whole(rt: &HostRuntime, i: Input) -> Result<bool> {
     match i {
-        Input::Full => true,
-        Input::Last(_) => false,
+        Input::Full => Ok(true),
+        Input::Last(_) => Ok(false),
         Input::Failed => {
-            io::write_all(STDERR_FILENO, b"cases: standard input could not be read\n");
-            false
+            eprintln!(rt; "cases: standard input could not be read")?;
+            Ok(false)
         }
     }
 }
 
 // One case, answered; whether there may be another.
-fn turn(buffer: &mut [u8]) -> bool {
+fn turn(rt: &HostRuntime, buffer: &mut [u8]) -> Result<bool> {
     let mut head = [0u8; 128];
-    if !whole(input::load(STDIN_FILENO, &mut head)) {
-        return false;
+    if !whole(rt, input::load(&mut rt.stdin(), &mut head))? {
+        return Ok(false);
     }
     let k = fields::within(&head, 3, buffer);
-    input::load(STDIN_FILENO, &mut buffer[..k]);
+    input::load(&mut rt.stdin(), &mut buffer[..k]);
     let n = fields::within(&head, 4, buffer);
-    named(&head, &mut buffer[..n]);
-    io::write_all(STDOUT_FILENO, b"\n");
-    true
+    named(rt, &head, &mut buffer[..n])?;
+    println!(rt;)?;
+    Ok(true)
 }
 
-fn main() {
+fn main(rt: HostRuntime) -> Result<()> {
     let mut buffer = [0u8; 65537];
-    let mut turns = 1u64 << 41;
-    while 0 < turns {
-        if !turn(&mut buffer) {
-            return;
+    for _ in 0..1u64 << 41 {
+        if !turn(&rt, &mut buffer)? {
+            break;
         }
-        turns -= 1;
     }
+    Ok(())
 }

@@ -1,49 +1,49 @@
 // Numbers and bytes on standard output, a space after each.
-ghost use Rattle.std.specs.Prelude.{◌<◌, ◌≤◌, length};
+ghost use Rattle.std.specs.Prelude.{◌<◌, ◌≤◌, length, IfOk};
 
-use libc::STDOUT_FILENO;
+use std::io::{Print, Result};
 
-pub(crate) fn number(n: u64) {
-    io::print_decimal(STDOUT_FILENO, n);
-    io::write_all(STDOUT_FILENO, b" ");
+pub(crate) fn number(rt: &HostRuntime, n: u64) -> Result<()> {
+    print!(rt; "{n} ")
 }
 
-pub(crate) fn two(a: u64, b: u64) {
-    number(a);
-    number(b);
+pub(crate) fn two(rt: &HostRuntime, a: u64, b: u64) -> Result<()> {
+    number(rt, a)?;
+    number(rt, b)
 }
 
-pub(crate) fn three(a: u64, b: u64, c: u64) {
-    number(a);
-    number(b);
-    number(c);
+pub(crate) fn three(rt: &HostRuntime, a: u64, b: u64, c: u64) -> Result<()> {
+    number(rt, a)?;
+    number(rt, b)?;
+    number(rt, c)
 }
 
-pub(crate) fn refused(n: u8) {
-    io::write_all(STDOUT_FILENO, b"refused ");
-    number(n as u64);
+pub(crate) fn refused(rt: &HostRuntime, n: u8) -> Result<()> {
+    print!(rt; "refused {n} ")
 }
 
 // Prints the next eight bytes, or the next one where there are fewer; answers how many.
-fn some(s: &[u8]) -> usize
+fn some(rt: &HostRuntime, s: &[u8]) -> Result<usize>
     requires { 0 < length s.now }
-    ensures { (0 < result) × (result ≤ length s.now) }
+    ensures { IfOk result (λ n. (0 < n) × (n ≤ length s.now)) }
 {
     if 8 <= s.len() {
-        io::print_hex(STDOUT_FILENO, octets::number(s, 0), 16);
-        return 8;
+        let eight = octets::number(s, 0);
+        print!(rt; "{eight:016x}")?;
+        return Ok(8);
     }
-    io::print_hex(STDOUT_FILENO, s[0] as u64, 2);
-    1
+    let one = s[0];
+    print!(rt; "{one:02x}")?;
+    Ok(1)
 }
 
 // Two digits a byte.
-pub(crate) fn bytes(s: &[u8]) {
+pub(crate) fn bytes(rt: &HostRuntime, s: &[u8]) -> Result<()> {
     let mut at = 0;
     while at < s.len() {
-        at += some(&s[at..]);
+        at += some(rt, &s[at..])?;
     }
-    io::write_all(STDOUT_FILENO, b" ");
+    print!(rt; " ")
 }
 
 fn wide(byte: u8) -> u64 {
@@ -57,54 +57,40 @@ fn with(sum: u64, x: u64) -> u64 {
 }
 
 // Up to 200 bytes, two digits each; else their sum, from their number on.
-pub(crate) fn list(s: &[u8]) {
+pub(crate) fn list(rt: &HostRuntime, s: &[u8]) -> Result<()> {
     if s.len() <= 200 {
-        bytes(s);
-        return;
+        return bytes(rt, s);
     }
     let mut sum = s.len() as u64;
-    let mut at = 0;
-    while at < s.len() {
-        sum = with(sum, wide(s[at]));
-        at += 1;
+    for b in s {
+        sum = with(sum, wide(*b));
     }
-    number(sum);
+    number(rt, sum)
 }
 
 // The sum of numbers, from their number on.
-pub(crate) fn numbers(s: &[u64]) {
+pub(crate) fn numbers(rt: &HostRuntime, s: &[u64]) -> Result<()> {
     let mut sum = s.len() as u64;
-    let mut at = 0;
-    while at < s.len() {
-        sum = with(sum, s[at]);
-        at += 1;
+    for x in s {
+        sum = with(sum, *x);
     }
-    number(sum);
+    number(rt, sum)
 }
 
 // Sixteen digits a number.
-fn digits(s: &[u64]) {
-    let mut at = 0;
-    while at < s.len() {
-        io::print_hex(STDOUT_FILENO, s[at], 16);
-        at += 1;
+fn digits(rt: &HostRuntime, s: &[u64]) -> Result<()> {
+    for x in s {
+        let wide = *x;
+        print!(rt; "{wide:016x}")?;
     }
-    io::write_all(STDOUT_FILENO, b" ");
+    print!(rt; " ")
 }
 
 // What is lent, after the call: all of it, or in short.
-pub(crate) fn left(all: bool, s: &[u8]) {
-    if all {
-        bytes(s);
-    } else {
-        list(s);
-    }
+pub(crate) fn left(rt: &HostRuntime, all: bool, s: &[u8]) -> Result<()> {
+    if all { bytes(rt, s) } else { list(rt, s) }
 }
 
-pub(crate) fn left_numbers(all: bool, s: &[u64]) {
-    if all {
-        digits(s);
-    } else {
-        numbers(s);
-    }
+pub(crate) fn left_numbers(rt: &HostRuntime, all: bool, s: &[u64]) -> Result<()> {
+    if all { digits(rt, s) } else { numbers(rt, s) }
 }

@@ -1,6 +1,7 @@
 // The tally's answers, and those of the lane that feeds it.
 use crate::{fields, say};
 use lane::Counted;
+use std::io::Result;
 use tally::{Added, Tally};
 
 fn handed_in(head: &[u8]) -> Tally {
@@ -17,10 +18,10 @@ fn handed_in(head: &[u8]) -> Tally {
     }
 }
 
-fn tallied(t: Tally) {
-    say::three(t.clean, t.one, t.two);
-    say::three(t.no_word, t.run_broken, t.pad_wrong);
-    say::three(t.check_flips, t.current, t.longest);
+fn tallied(rt: &HostRuntime, t: Tally) -> Result<()> {
+    say::three(rt, t.clean, t.one, t.two)?;
+    say::three(rt, t.no_word, t.run_broken, t.pad_wrong)?;
+    say::three(rt, t.check_flips, t.current, t.longest)
 }
 
 // One verdict with one flag and one number of check flips goes by the call for one.
@@ -36,21 +37,21 @@ fn added<'a>(t: Tally, verdicts: &[u8], pads: &'a [u8], checks: &'a [u8]) -> Add
 }
 
 // The flags are the front of the rest, the check flips what is behind them.
-pub(crate) fn add(head: &[u8], verdicts: &[u8], rest: &[u8]) {
+pub(crate) fn add(rt: &HostRuntime, head: &[u8], verdicts: &[u8], rest: &[u8]) -> Result<()> {
     let j = fields::within(head, 15, rest);
     match added(handed_in(head), verdicts, &rest[..j], &rest[j..]) {
-        Added::Next(t) => tallied(t),
-        Added::Refused(n) => say::refused(n),
+        Added::Next(t) => tallied(rt, t),
+        Added::Refused(n) => say::refused(rt, n),
     }
 }
 
-pub(crate) fn count(head: &[u8], piece: &[u8]) {
+pub(crate) fn count(rt: &HostRuntime, head: &[u8], piece: &[u8]) -> Result<()> {
     match lane::count(handed_in(head), piece) {
         Counted::Next(u) => {
-            tallied(u.tally);
-            say::number(u.frames);
-            say::number(u.left);
+            tallied(rt, u.tally)?;
+            say::number(rt, u.frames)?;
+            say::number(rt, u.left)
         }
-        Counted::Refused(n) => say::refused(n),
+        Counted::Refused(n) => say::refused(rt, n),
     }
 }

@@ -5,6 +5,7 @@ ghost use Rattle.desk.specs.Parts.{state_of, TurnsTo};
 
 use input::Input;
 use lane::{Counted, Totals};
+use std::io::Read;
 use tally::Tally;
 
 // What a run has come to: the totals so far, those of the whole input, or why it stopped.
@@ -39,21 +40,21 @@ fn turned(t: Tally, buffer: &[u8], i: Input) -> State
 }
 
 // One buffer of input, counted on.
-fn one_turn(fd: i32, t: Tally) -> State {
+fn one_turn<R: Read>(reader: &mut R, t: Tally) -> State {
     let mut buffer = io::large_buffer();
-    let i = input::load(fd, &mut buffer);
+    let i = input::load(reader, &mut buffer);
     turned(t, &buffer, i)
 }
 
 // The whole input. The tally is full long before the turns are used up.
-pub(crate) fn all(fd: i32) -> State {
-    let mut state = one_turn(fd, Tally::fresh());
+pub(crate) fn all<R: Read>(reader: &mut R) -> State {
+    let mut state = one_turn(reader, Tally::fresh());
     let mut turns = 1u64 << 41;
     while 0 < turns {
         let State::More(u) = state else {
             return state;
         };
-        state = one_turn(fd, u.tally);
+        state = one_turn(reader, u.tally);
         turns -= 1;
     }
     state

@@ -3,106 +3,90 @@ ghost use Rattle.desk.specs.Calls.{Status};
 ghost use Rattle.desk.specs.Parts.{Said};
 
 use crate::asking::Asked;
+use crate::files::Source;
 use crate::saying::{cannot, refusal, say};
 use crate::{DONE, asking, steps};
 use input::Input;
-use libc::{STDIN_FILENO, STDOUT_FILENO};
 use maker::Making;
+use std::io::{Print, Result, Write};
 
-pub(crate) fn usage() -> i32
+pub(crate) fn usage(rt: &HostRuntime) -> i32
     ensures { Said result }
 {
-    say(b"usage: division; the data word, 16 hexadecimal digits, is read from standard input\n")
+    say(
+        rt,
+        b"usage: division; the data word, 16 hexadecimal digits, is read from standard input\n",
+    )
 }
 
-// Whether a line is written: its front, and x as 16 hexadecimal digits.
-fn show_number(front: &[u8], x: u64) -> bool {
+// A line: its front, and x as 16 hexadecimal digits.
+fn show_number(rt: &HostRuntime, front: &[u8], x: u64) -> Result<()> {
     let digits = printout::hex_digits(x);
-    if !io::write_all(STDOUT_FILENO, front) {
-        return false;
-    }
-    if !io::write_all(STDOUT_FILENO, &digits) {
-        return false;
-    }
-    io::write_all(STDOUT_FILENO, b"\n")
+    rt.write_all(front)?;
+    rt.write_all(&digits)?;
+    rt.write_all(b"\n")
 }
 
-// Whether the lines ahead of the steps are written: the data word, and v, which is divided.
-fn show_dividend(data: u64, v: u64) -> bool {
-    if !show_number(b"data            ", data) {
-        return false;
-    }
-    if !io::write_all(
-        STDOUT_FILENO,
-        b"step  power  a  u(x) x^12, and what is left of it after each step\n",
-    ) {
-        return false;
-    }
-    steps::show(b"                ", v, 0, 63)
+// The lines ahead of the steps: the data word, and v, which is divided.
+fn show_dividend(rt: &HostRuntime, data: u64, v: u64) -> Result<()> {
+    show_number(rt, b"data            ", data)?;
+    rt.write_all(b"step  power  a  u(x) x^12, and what is left of it after each step\n")?;
+    steps::show(rt, b"                ", v, 0, 63)
 }
 
-// Whether the lines after the steps are written: the remainder, the code word, the pad in the column of x^62, and the frame.
-fn show_frame(frame: u64) -> bool {
+// The lines after the steps: the remainder, the code word, the pad in the column of x^62, and the frame.
+fn show_frame(rt: &HostRuntime, frame: u64) -> Result<()> {
     let word = frame / 2;
-    if !steps::show(b"b(x)            ", word, 51, 63) {
-        return false;
-    }
-    if !steps::show(b"v(x)            ", word, 0, 63) {
-        return false;
-    }
-    if !steps::show(b"pad             ", frame << 62, 0, 1) {
-        return false;
-    }
-    show_number(b"frame           ", frame)
+    steps::show(rt, b"b(x)            ", word, 51, 63)?;
+    steps::show(rt, b"v(x)            ", word, 0, 63)?;
+    steps::show(rt, b"pad             ", frame << 62, 0, 1)?;
+    show_number(rt, b"frame           ", frame)
 }
 
-// Whether the whole table is written: that of the frame's word with its check bits 0. What a file system takes back later it tells when the
-// output is closed.
-fn written(data: u64, frame: u64) -> bool {
+// The whole table: that of the frame's word with its check bits 0.
+fn written(rt: &HostRuntime, data: u64, frame: u64) -> Result<()> {
     let v = frame / 8192 * 4096;
-    if !show_dividend(data, v) {
-        return false;
-    }
-    if !steps::show_steps(v) {
-        return false;
-    }
-    if !show_frame(frame) {
-        return false;
-    }
-    libc::close(STDOUT_FILENO) == 0
+    show_dividend(rt, data, v)?;
+    steps::show_steps(rt, v)?;
+    show_frame(rt, frame)?;
+    rt.stdout().flush()
 }
 
-fn division_of(data: u64) -> i32
+fn division_of(rt: &HostRuntime, data: u64) -> i32
     ensures { Status result }
 {
     match maker::make(data) {
         Making::Frame(f) => {
-            if !written(data, f) {
-                return cannot(b"division: cannot write ", b"the whole table");
+            if let Err(e) = written(rt, data, f) {
+                return cannot(rt, b"division: cannot write ", b"the whole table", e);
             }
             DONE
         }
-        Making::Refused(n) => refusal(b"division: the data word is refused: ", n),
+        Making::Refused(n) => refusal(rt, b"division: the data word is refused: ", n),
     }
 }
 
-fn division_of_asked(a: Asked) -> i32
+fn division_of_asked(rt: &HostRuntime, a: Asked) -> i32
     ensures { Status result }
 {
     match a {
-        Asked::Word(data) => division_of(data),
-        Asked::Nothing => say(b"division: standard input is not 16 hexadecimal digits\n"),
+        Asked::Word(data) => division_of(rt, data),
+        Asked::Nothing => say(
+            rt,
+            b"division: standard input is not 16 hexadecimal digits\n",
+        ),
     }
 }
 
 // A byte more than a word and its line end have, so that a longer input is seen to be longer.
-pub(crate) fn division_of_input() -> i32
+pub(crate) fn division_of_input(rt: &HostRuntime) -> i32
     ensures { Status result }
 {
     let mut text = [0u8; 19];
-    match input::load(STDIN_FILENO, &mut text) {
-        Input::Full => division_of_asked(Asked::Nothing),
-        Input::Last(n) => division_of_asked(asking::word_of(&text, n)),
-        Input::Failed => cannot(b"division: cannot read ", b"standard input"),
+    let mut source = Source::of(rt.stdin());
+    match input::load(&mut source, &mut text) {
+        Input::Full => division_of_asked(rt, Asked::Nothing),
+        Input::Last(n) => division_of_asked(rt, asking::word_of(&text, n)),
+        Input::Failed => cannot(rt, b"division: cannot read ", b"standard input", source.why),
     }
 }

@@ -1,12 +1,15 @@
 // The programs for users. An entry does the whole of its program's work and answers the status.
 #![tactic(auto)]
+
 ghost use Rattle.desk.specs.Calls.{Status};
 
 mod asking;
 mod counting;
 mod dividing;
+mod files;
 mod listing;
 mod outcome;
+mod reason;
 mod salvaging;
 mod saying;
 mod steps;
@@ -18,39 +21,35 @@ const DONE: i32 = 0;
 const SAID: i32 = 1;
 
 // listing [FILE]: the listing of the frames in FILE, or on standard input.
-#[unsafe(no_mangle)]
-pub extern "C" fn lks_listing() -> i32
+pub fn lks_listing(rt: &HostRuntime) -> i32
     ensures { Status result }
 {
-    let words = os::arg_count();
-    if words < 2 {
-        return listing::listing_of(libc::STDIN_FILENO, b"standard input");
+    if !files::is_given(rt, 1) {
+        return listing::listing_of(rt, rt.stdin(), b"standard input");
     }
-    if words > 2 {
-        return listing::usage();
+    if files::is_given(rt, 2) {
+        return listing::usage(rt);
     }
-    listing::listing_of_file()
+    listing::listing_of_file(rt)
 }
 
 // salvage IN OUT: the capture in the file IN, salvaged into the file OUT, and an account of it on standard output. `one` is not 0 where both
 // are one file, which is then not written.
-#[unsafe(no_mangle)]
-pub extern "C" fn lks_salvage(one: i32) -> i32
+pub fn lks_salvage(rt: &HostRuntime, one: i32) -> i32
     ensures { Status result }
 {
-    if os::arg_count() != 3 {
-        return salvaging::usage();
+    if !files::are_two(rt) {
+        return salvaging::usage(rt);
     }
-    salvaging::salvage_of_files(one)
+    salvaging::salvage_of_files(rt, one)
 }
 
 // division: the long division that gives the check bits of the data word on standard input, step by step.
-#[unsafe(no_mangle)]
-pub extern "C" fn lks_division() -> i32
+pub fn lks_division(rt: &HostRuntime) -> i32
     ensures { Status result }
 {
-    if os::arg_count() > 1 {
-        return dividing::usage();
+    if files::is_given(rt, 1) {
+        return dividing::usage(rt);
     }
-    dividing::division_of_input()
+    dividing::division_of_input(rt)
 }

@@ -1,78 +1,75 @@
 // What becomes of a salvaged capture: the file that it is written to, and the account of it.
-use libc::STDOUT_FILENO;
+use crate::files;
 use printout::Told;
+use std::io::{Error, Print, Result, Write};
 
 // Whether the whole file is written, and what could not be done.
 #[derive(Clone, Copy)]
 pub(crate) enum Out {
     Whole,
-    Unopened,
-    Unwritten,
+    Unopened(Error),
+    Unwritten(Error),
 }
 
-// The bytes in the file of that name, made or emptied. What a file system takes back later it tells when the file is closed.
-pub(crate) fn put_out(path: &[u8], bytes: &[u8]) -> Out {
-    let fd = os::open_overwrite(path);
-    if fd < 0 {
-        return Out::Unopened;
+// The bytes in the file of that name, made or emptied.
+pub(crate) fn put_out(rt: &HostRuntime, path: &[u8], bytes: &[u8]) -> Out {
+    match files::create(rt, path) {
+        Ok(file) => {
+            let mut to = file;
+            match files::fill(&mut to, bytes) {
+                Ok(()) => Out::Whole,
+                Err(e) => Out::Unwritten(e),
+            }
+        }
+        Err(e) => Out::Unopened(e),
     }
-    if !io::write_all(fd, bytes) {
-        return Out::Unwritten;
-    }
-    if libc::close(fd) != 0 {
-        return Out::Unwritten;
-    }
-    Out::Whole
 }
 
-fn told_head(frames: u64, altered: u64, refused: u64) -> bool {
+fn told_head(rt: &HostRuntime, frames: u64, altered: u64, refused: u64) -> Result<()> {
     let mut text = [0u8; 128];
     let n = printout::account_head(frames, altered, refused, &mut text);
-    io::write_all(STDOUT_FILENO, &text[..n])
+    rt.write_all(&text[..n])
 }
 
-// How far the account has come, or that a line of it is not written.
-#[derive(Clone, Copy)]
-enum Telling {
-    On(Told),
-    Lost,
-}
-
-fn told_line(altered: &[u64], places: &[u64], refused: &[u64], at: Told) -> Telling {
+// How far the account has come.
+fn told_line(
+    rt: &HostRuntime,
+    altered: &[u64],
+    places: &[u64],
+    refused: &[u64],
+    at: Told,
+) -> Result<Told> {
     let mut text = [0u8; 64];
     let s = printout::account_line(altered, places, refused, at, &mut text);
     let n = s.length;
     let told = s.told;
-    if io::write_all(STDOUT_FILENO, &text[..n]) {
-        return Telling::On(told);
-    }
-    Telling::Lost
+    rt.write_all(&text[..n])?;
+    Ok(told)
 }
 
 // A line for each entry.
-fn told_lines(altered: &[u64], places: &[u64], refused: &[u64]) -> bool {
+fn told_lines(rt: &HostRuntime, altered: &[u64], places: &[u64], refused: &[u64]) -> Result<()> {
     let mut told = Told {
         altered: 0,
         refused: 0,
     };
     let mut left = altered.len() + refused.len();
     while 0 < left {
-        let Telling::On(t) = told_line(altered, places, refused, told) else {
-            return false;
-        };
-        told = t;
+        told = told_line(rt, altered, places, refused, told)?;
         left -= 1;
     }
-    true
+    Ok(())
 }
 
-// Whether the whole account is written to standard output.
-pub(crate) fn all_told(frames: u64, altered: &[u64], places: &[u64], refused: &[u64]) -> bool {
-    if !told_head(frames, altered.len() as u64, refused.len() as u64) {
-        return false;
-    }
-    if !told_lines(altered, places, refused) {
-        return false;
-    }
-    libc::close(STDOUT_FILENO) == 0
+// The whole account on standard output.
+pub(crate) fn all_told(
+    rt: &HostRuntime,
+    frames: u64,
+    altered: &[u64],
+    places: &[u64],
+    refused: &[u64],
+) -> Result<()> {
+    told_head(rt, frames, altered.len() as u64, refused.len() as u64)?;
+    told_lines(rt, altered, places, refused)?;
+    rt.stdout().flush()
 }

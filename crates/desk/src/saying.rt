@@ -2,31 +2,46 @@
 ghost use Rattle.desk.specs.Parts.{Said};
 
 use crate::SAID;
-use libc::STDERR_FILENO;
+use crate::reason::Reason;
+use std::io::{Eprint, Error, Print};
 
-// A line on standard error: it cannot do that with this, and why, as the last call that failed tells it.
-pub(crate) fn cannot(do_it: &[u8], this: &[u8]) -> i32
+// Where standard error cannot be written, there is nobody left to tell.
+fn put(rt: &HostRuntime, text: &[u8]) {
+    let _ = rt.stderr().write_all(text);
+}
+
+// The end of a line: what it is about, and why.
+fn because(rt: &HostRuntime, this: &[u8], why: Error) {
+    put(rt, this);
+    put(rt, b": ");
+    let reason = Reason::of(why);
+    put(rt, reason.text());
+    put(rt, b"\n");
+}
+
+// A line on standard error: it cannot do that with this, and why.
+pub(crate) fn cannot(rt: &HostRuntime, do_it: &[u8], this: &[u8], why: Error) -> i32
     ensures { Said result }
 {
-    io::write_all(STDERR_FILENO, do_it);
-    os::fail(this);
+    put(rt, do_it);
+    because(rt, this, why);
     SAID
 }
 
-pub(crate) fn say(line: &[u8]) -> i32
+pub(crate) fn say(rt: &HostRuntime, line: &[u8]) -> i32
     ensures { Said result }
 {
-    io::write_all(STDERR_FILENO, line);
+    put(rt, line);
     SAID
 }
 
 // A line on standard error: the paper's number of a refusal, after what is refused.
-pub(crate) fn refusal(this: &[u8], n: u8) -> i32
+pub(crate) fn refusal(rt: &HostRuntime, this: &[u8], n: u8) -> i32
     ensures { Said result }
 {
-    io::write_all(STDERR_FILENO, this);
-    io::print_decimal(STDERR_FILENO, n as u64);
-    say(b"\n")
+    put(rt, this);
+    let _ = rt.eprint(n);
+    say(rt, b"\n")
 }
 
 // A byte as it is shown: a control character, such as a line end, is a question mark.
@@ -36,9 +51,7 @@ fn shown(b: u8) -> u8 {
 
 // A name that stays on its line.
 pub(crate) fn show(name: &mut [u8]) {
-    let mut i = 0;
-    while i < name.len() {
-        name[i] = shown(name[i]);
-        i += 1;
+    for b in name.iter_mut() {
+        *b = shown(*b);
     }
 }

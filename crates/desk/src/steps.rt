@@ -3,7 +3,7 @@ ghost use Rattle.std.specs.Prelude.{◌≡◌, ◌+◌, ◌%◌, ◌^◌, ◌<�
 ghost use Rattle.poly.specs.Steps.{left_after};
 ghost use Rattle.desk.specs.Parts.{Shows};
 
-use libc::STDOUT_FILENO;
+use std::io::{Print, Result};
 
 // What is left of v after j steps: the last 51 - j coefficients as they were, and the remainder of those that lead.
 fn left_after(v: u64, j: u64) -> u64
@@ -54,47 +54,42 @@ fn columns(r: u64, first: usize, end: usize) -> [u8; 64]
     line
 }
 
-// Whether a line is written: its front, and those columns.
-pub(crate) fn show(front: &[u8], r: u64, first: usize, end: usize) -> bool
+// A line: its front, and those columns.
+pub(crate) fn show(rt: &HostRuntime, front: &[u8], r: u64, first: usize, end: usize) -> Result<()>
     requires { (first ≤ end) × (end ≤ 63) }
 {
     let line = columns(r, first, end);
-    if !io::write_all(STDOUT_FILENO, front) {
-        return false;
-    }
-    io::write_all(STDOUT_FILENO, &line[..end + 1])
+    rt.write_all(front)?;
+    rt.write_all(&line[..end + 1])
 }
 
-// Whether the lines of the step after j others are written: what it takes away, where it does, and what is left.
-fn show_step(v: u64, j: u64) -> bool
+// The lines of the step after j others: what it takes away, where it does, and what is left.
+fn show_step(rt: &HostRuntime, v: u64, j: u64) -> Result<()>
     requires { (v < 2 ^ 63) × (j < 51) }
 {
     let before = left_after(v, j);
     let after = left_after(v, j + 1);
     let a = (before >> (62 - j)) % 2;
     if a == 1 {
-        if !show(
+        show(
+            rt,
             b"                ",
             before ^ after,
             j as usize,
             (j + 13) as usize,
-        ) {
-            return false;
-        }
+        )?;
     }
-    show(&front(j + 1, 62 - j, a), after, (j + 1) as usize, 63)
+    show(rt, &front(j + 1, 62 - j, a), after, (j + 1) as usize, 63)
 }
 
-// Whether the lines of all 51 steps are written.
-pub(crate) fn show_steps(v: u64) -> bool
+// The lines of all 51 steps.
+pub(crate) fn show_steps(rt: &HostRuntime, v: u64) -> Result<()>
     requires { v < 2 ^ 63 }
 {
     let mut j = 0;
     while j < 51 {
-        if !show_step(v, j) {
-            return false;
-        }
+        show_step(rt, v, j)?;
         j += 1;
     }
-    true
+    Ok(())
 }

@@ -3,12 +3,8 @@
 -- │ more      │ bytes came, and there is room after them                            │
 -- │ last      │ the input ended with what was there                                 │
 -- └───────────┴─────────────────────────────────────────────────────────────────────┘
-use mathlib.Core.Path.{◌≡◌, refl}
-use mathlib.Core.Bool.{Bool, true, false, cond}
-use Prim.Native.Nat.{ℕ, ◌+◌, ◌-◌, ◌<◌}
-use native.Mathlib.Omega.{arith}
+use Rattle.std.proofs.Common.{◌≡◌, refl, Bool, true, false, cond, ℕ, ◌+◌, ◌-◌, ◌<◌, arith, eqb, ltb}
 use borrow.Author.Tests.{eqb-false, ltb-true}
-use lib.Dec.{eqb, ltb}
 use Rattle.input.specs.Parts.{step_of}
 use Rattle.input.specs.declared.Input.TheVariants.{Full, Last, Failed}
 use Rattle.input.specs.declared.Step.{Step}

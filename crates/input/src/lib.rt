@@ -1,8 +1,12 @@
 // What programs read, a buffer at a time.
 #![tactic(auto)]
+
 ghost use Rattle.std.specs.Prelude.{◌≡◌};
 ghost use Rattle.input.specs.Calls.{Fits};
-ghost use Rattle.input.specs.Parts.{negative, came_of, step_of};
+ghost use Rattle.input.specs.Parts.{negative, came_with, came_of, step_of};
+
+use std::io;
+use std::io::Read;
 
 // What became of a buffer: the input filled it, or ended after so many bytes, or could not be read.
 #[derive(Clone, Copy)]
@@ -31,28 +35,28 @@ fn came(n: usize, have: usize, size: usize) -> Step
     Step::Over(Input::Full)
 }
 
-// What a read comes to that answered `got`, which is n bytes.
-fn after_read(got: isize, n: usize, have: usize, size: usize) -> Step
-    ensures { result ≡ step_of (negative got) n have size }
+// What a read comes to that answered `got`.
+#[tactic(auto, unfolding(crate::specs::Parts::step_of))]
+fn after_read(got: io::Result<usize>, have: usize, size: usize) -> Step
+    ensures { result ≡ step_of (negative got) (came_with got) have size }
 {
-    if got < 0 {
+    let Ok(n) = got else {
         return Step::Over(Input::Failed);
-    }
+    };
     if n == 0 {
         return Step::Over(Input::Last(have));
     }
     came(n, have, size)
 }
 
-// Reads from the descriptor fd until the buffer is full or the input ends. A read may hand over any number of bytes.
-pub fn load(fd: i32, buffer: &mut [u8]) -> Input
+// Reads until the buffer is full or the input ends. A read may hand over any number of bytes.
+pub fn load<R: Read>(reader: &mut R, buffer: &mut [u8]) -> Input
     ensures { Fits result buffer.new }
 {
     let mut have = 0;
     while have < buffer.len() {
-        let got = libc::read(fd, &mut buffer[have..]);
-        let n = io::count(got, &buffer[have..]);
-        match after_read(got, n, have, buffer.len()) {
+        let got = reader.read(&mut buffer[have..]);
+        match after_read(got, have, buffer.len()) {
             Step::More(filled) => {
                 have = filled;
             }

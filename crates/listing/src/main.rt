@@ -1,5 +1,11 @@
-// Counts the frames of a capture, as the program for users does; a Rattle program has no status of its own.
+// Counts the frames of a capture: listing [FILE]
 #![tactic(auto)]
-fn main() {
-    desk::lks_listing();
+
+use std::process::ExitCode;
+
+fn main(rt: HostRuntime) -> ExitCode {
+    match desk::lks_listing(&rt) {
+        0 => ExitCode::SUCCESS,
+        _ => ExitCode::FAILURE,
+    }
 }

@@ -1,8 +1,12 @@
 // Work for a count of instructions. The first byte on standard input says what to do, f or c with pattern 11, F or C with
 // pattern 31: fill or count. Each byte after it asks for a round of 4,096 bytes.
 #![tactic(auto)]
-use libc::{STDIN_FILENO, STDOUT_FILENO};
+
+ghost use Rattle.std.specs.Prelude.{◌≤◌, length};
+
 use pattern::{Counter, Fed, Filled, Generator, Opened, Started};
+use std::io;
+use std::io::Read;
 
 // The register after the rounds.
 fn fill_rounds(pattern: u8, rounds: usize) -> u64 {
@@ -11,13 +15,11 @@ fn fill_rounds(pattern: u8, rounds: usize) -> u64 {
     };
     let mut out = [0u8; 4096];
     let mut g = start;
-    let mut i = 0;
-    while i < rounds {
+    for _ in 0..rounds {
         let Filled::Advanced(h) = g.fill(&mut out) else {
             return 0;
         };
         g = h;
-        i += 1;
     }
     g.register
 }
@@ -29,13 +31,11 @@ fn count_rounds(pattern: u8, rounds: usize) -> u64 {
     };
     let piece = [0x5au8; 4096];
     let mut c = start;
-    let mut i = 0;
-    while i < rounds {
+    for _ in 0..rounds {
         let Fed::Counted(d) = c.feed(&piece) else {
             return 0;
         };
         c = d;
-        i += 1;
     }
     c.errors
 }
@@ -50,11 +50,29 @@ fn answer(work: u8, rounds: usize) -> u64 {
     }
 }
 
-fn main() {
-    let mut input = [0u8; 4096];
-    let n = io::read_full(STDIN_FILENO, &mut input);
-    if 0 < n {
-        io::print_decimal(STDOUT_FILENO, answer(input[0], n - 1));
-        io::write_all(STDOUT_FILENO, b"\n");
+// Reads until the buffer is full, the input ends or a read fails; how many bytes are there.
+fn filled<R: Read>(reader: &mut R, buffer: &mut [u8]) -> usize
+    ensures { result ≤ length buffer.new }
+{
+    let mut have = 0;
+    while have < buffer.len() {
+        let Ok(n) = reader.read(&mut buffer[have..]) else {
+            return have;
+        };
+        if n == 0 {
+            return have;
+        }
+        have += n;
     }
+    have
+}
+
+fn main(rt: HostRuntime) -> io::Result<()> {
+    let mut input = [0u8; 4096];
+    let n = filled(&mut rt.stdin(), &mut input);
+    if 0 < n {
+        let count = answer(input[0], n - 1);
+        println!(rt; "{count}")?;
+    }
+    Ok(())
 }

@@ -1,84 +1,54 @@
 // Runs the rows of the paper's bench numbers, and the examples that users check by hand, through the calls.
 #![tactic(auto)]
-use libc::STDOUT_FILENO;
+
 use maker::Making;
-use reader::{Flips, Reading};
+use reader::{Flips, Reading, Word};
+use std::io;
 
-fn say(text: &[u8]) {
-    io::write_all(STDOUT_FILENO, text);
-}
-
-fn number(n: u64) {
-    io::print_decimal(STDOUT_FILENO, n);
-}
-
-fn refusal(n: u8) {
-    say(b": ");
-    number(n as u64);
-    say(b"\n");
-}
-
-fn show_make(data: u64) {
-    say(b"make ");
-    io::print_hex(STDOUT_FILENO, data, 12);
+fn show_make(rt: &HostRuntime, data: u64) -> io::Result<()> {
+    print!(rt; "make {data:012x}")?;
     match maker::make(data) {
-        Making::Frame(f) => {
-            say(b": frame ");
-            io::print_hex(STDOUT_FILENO, f, 16);
-            say(b"\n");
-        }
-        Making::Refused(n) => refusal(n),
+        Making::Frame(f) => println!(rt; ": frame {f:016x}"),
+        Making::Refused(n) => println!(rt; ": {n}"),
     }
 }
 
-fn show_flips(flips: Flips) {
+fn show_flips(rt: &HostRuntime, flips: Flips) -> io::Result<()> {
     match flips {
-        Flips::Nowhere => say(b", no flips"),
-        Flips::One(a) => {
-            say(b", flip at ");
-            number(a);
-        }
-        Flips::Two(a, b) => {
-            say(b", flips at ");
-            number(a);
-            say(b" and ");
-            number(b);
-        }
+        Flips::Nowhere => print!(rt; ", no flips"),
+        Flips::One(a) => print!(rt; ", flip at {a}"),
+        Flips::Two(a, b) => print!(rt; ", flips at {a} and {b}"),
     }
 }
 
-fn show_read(bits: u64) {
-    say(b"read ");
-    io::print_hex(STDOUT_FILENO, bits, 16);
+fn show_word(rt: &HostRuntime, w: Word) -> io::Result<()> {
+    let data = w.data;
+    let check_flips = w.check_flips;
+    let pad = if w.pad_wrong { "wrong" } else { "right" };
+    print!(rt; ": data {data:012x}")?;
+    show_flips(rt, w.flips)?;
+    println!(rt; ", check flips {check_flips}, pad {pad}")
+}
+
+fn show_read(rt: &HostRuntime, bits: u64) -> io::Result<()> {
+    print!(rt; "read {bits:016x}")?;
     match reader::read(bits) {
-        Reading::Lawful(w) => {
-            say(b": data ");
-            io::print_hex(STDOUT_FILENO, w.data, 12);
-            let flips = w.flips;
-            show_flips(flips);
-            say(b", check flips ");
-            number(w.check_flips as u64);
-            if w.pad_wrong {
-                say(b", pad wrong\n");
-            } else {
-                say(b", pad right\n");
-            }
-        }
-        Reading::Refused(n) => refusal(n),
+        Reading::Lawful(w) => show_word(rt, w),
+        Reading::Refused(n) => println!(rt; ": {n}"),
     }
 }
 
-fn main() {
-    show_make(0);
-    show_make(0xFFFF_FFFF_FFFF);
-    show_make(0x0000_FFFF_0000);
-    show_make(0x1_0000_0000_0000);
-    show_read(0x0000_8000_4000_3565);
-    show_read(0x8000_8000_4000_3567);
-    show_read(0x0000_8000_4000_356B);
-    show_read(0x0000_8000_4000_3564);
-    show_read(0x0000_8000_4000_B565);
-    show_read(0x8000_8400_4020_3565);
-    show_read(0);
-    show_read(0xFFFF_FFFF_FFFF_FFFF);
+fn main(rt: HostRuntime) -> io::Result<()> {
+    show_make(&rt, 0)?;
+    show_make(&rt, 0xFFFF_FFFF_FFFF)?;
+    show_make(&rt, 0x0000_FFFF_0000)?;
+    show_make(&rt, 0x1_0000_0000_0000)?;
+    show_read(&rt, 0x0000_8000_4000_3565)?;
+    show_read(&rt, 0x8000_8000_4000_3567)?;
+    show_read(&rt, 0x0000_8000_4000_356B)?;
+    show_read(&rt, 0x0000_8000_4000_3564)?;
+    show_read(&rt, 0x0000_8000_4000_B565)?;
+    show_read(&rt, 0x8000_8400_4020_3565)?;
+    show_read(&rt, 0)?;
+    show_read(&rt, 0xFFFF_FFFF_FFFF_FFFF)
 }

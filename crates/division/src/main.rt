@@ -1,0 +1,11 @@
+// Divides the frame of a data word by g, step by step: division, with 16 hexadecimal digits on standard input
+#![tactic(auto)]
+
+use std::process::ExitCode;
+
+fn main(rt: HostRuntime) -> ExitCode {
+    match desk::lks_division(&rt) {
+        0 => ExitCode::SUCCESS,
+        _ => ExitCode::FAILURE,
+    }
+}

@@ -1,0 +1,80 @@
+// The entries of the library host as C calls them: its archive. Each has the contract of the entry behind it, word for word.
+#![tactic(auto)]
+
+ghost use Rattle.paper.specs.Answer.{numbered};
+ghost use Rattle.laws.specs.Lent.{◌to◌};
+ghost use Rattle.maker.specs.Lists.{MakesBytes};
+ghost use Rattle.reader.specs.Lists.{ReadsBytes};
+ghost use Rattle.pair.specs.Calls.{MakesPairsBytes, ReadsPairsBytes};
+ghost use Rattle.host.specs.Entries.{MakesCode, ReadsOut};
+ghost use Rattle.host.specs.Captures.{WritesFile, ReadsLabel, ReadsFile};
+
+#[unsafe(no_mangle)]
+pub extern "C" fn lks_frame_make(data: u64) -> u64
+    ensures { MakesCode «data» result }
+{
+    host::lks_frame_make(data)
+}
+
+#[unsafe(no_mangle)]
+pub extern "C" fn lks_frame_read(frame: u64, answer: &mut [u8]) -> u64
+    ensures { ReadsOut frame (answer.old to answer.new) result }
+{
+    host::lks_frame_read(frame, answer)
+}
+
+#[unsafe(no_mangle)]
+pub extern "C" fn lks_frames_make(data: &[u8], frames: &mut [u8]) -> u64
+    ensures { MakesBytes «data».now (frames.old to frames.new) (numbered result) }
+{
+    host::lks_frames_make(data, frames)
+}
+
+#[unsafe(no_mangle)]
+pub extern "C" fn lks_frames_read(
+    frames: &[u8],
+    data: &mut [u8],
+    verdicts: &mut [u8],
+    checks: &mut [u8],
+) -> u64
+    ensures { ReadsBytes frames.now («data».old to «data».new) (verdicts.old to verdicts.new)
+        (checks.old to checks.new) (numbered result) }
+{
+    host::lks_frames_read(frames, data, verdicts, checks)
+}
+
+#[unsafe(no_mangle)]
+pub extern "C" fn lks_pairs_make(frames: &[u8], words: &mut [u8]) -> u64
+    ensures { MakesPairsBytes frames.now (words.old to words.new) (numbered result) }
+{
+    host::lks_pairs_make(frames, words)
+}
+
+#[unsafe(no_mangle)]
+pub extern "C" fn lks_pairs_read(words: &[u8], data: &mut [u8], verdicts: &mut [u8]) -> u64
+    ensures { ReadsPairsBytes words.now («data».old to «data».new) (verdicts.old to verdicts.new)
+        (numbered result) }
+{
+    host::lks_pairs_read(words, data, verdicts)
+}
+
+#[unsafe(no_mangle)]
+pub extern "C" fn lks_capture_write(lane: u32, frames: &[u8], notes: &[u8], file: &mut [u8]) -> u64
+    ensures { WritesFile lane frames.now notes.now (file.old to file.new) result }
+{
+    host::lks_capture_write(lane, frames, notes, file)
+}
+
+#[unsafe(no_mangle)]
+pub extern "C" fn lks_capture_head(file: &[u8], answer: &mut [u8]) -> u64
+    ensures { ReadsLabel file.now (answer.old to answer.new) (numbered result) }
+{
+    host::lks_capture_head(file, answer)
+}
+
+#[unsafe(no_mangle)]
+pub extern "C" fn lks_capture_read(file: &[u8], frames: &mut [u8], answer: &mut [u8]) -> u64
+    ensures { ReadsFile file.now (frames.old to frames.new) (answer.old to answer.new) (numbered result) }
+{
+    host::lks_capture_read(file, frames, answer)
+}

@@ -1,0 +1,17 @@
+-- `put` lays the piece byte by byte.
+use mathlib.Core.Path.{◌≡◌, refl, ap, ◌∙◌}
+use mathlib.Core.List.{List}
+use Prim.Native.Nat.{ℕ, ◌+◌, ◌-◌, ◌≤◌}
+use native.Mathlib.Omega.{arith}
+use borrow.Author.Rules.{rules}
+use lib.ListN.{length, get_or, set, take, length-set}
+use lib.Seq.{take_all}
+use Rattle.printout.specs.Parts.{inlaid}
+use Rattle.printout.proofs.Laying.{inlaid_none, inlaid_more}
+use Rattle.printout.proofs.put.Given as goal
+
+abbrev pub invariant-loop-i : goal.invariant-loop-i
+invariant-loop-i l = (l.i ≤ length l.piece) × (length l.out ≡ length l.initial.out) × (l.out ≡ inlaid l.at (take l.i l.piece) l.initial.out)
+
+abbrev pub decreases-loop-i : goal.decreases-loop-i
+decreases-loop-i l = length l.piece - l.i

@@ -2,7 +2,7 @@
 // reader into its loop only where it has one.
 #![tactic(auto)]
 ghost use Rattle.paper.specs.Answer.{numbered};
-ghost use Rattle.laws.specs.Lent.{_to_};
+ghost use Rattle.laws.specs.Lent.{◌to◌};
 ghost use Rattle.pair.specs.Calls.{MakesPairs, ReadsPairs};
 
 #[unsafe(no_mangle)]

@@ -1,5 +1,6 @@
 // Capture files: written from lane, frames and notes, read back, or refused.
 #![tactic(auto)]
+
 ghost use Rattle.laws.specs.Lent.{◌to◌};
 ghost use Rattle.capture.specs.Answers.{filed, answer};
 ghost use Rattle.capture.specs.Calls.{Writes, Heads, Reads, HandsNotes};

@@ -1,5 +1,6 @@
 // The hierarchical code 4c2 on four wires: seven data bits as four symbols of two ones each, and back with up to two flips.
 #![tactic(auto)]
+
 ghost use Rattle.std.specs.Prelude.{◌≡◌, ◌<◌};
 ghost use Rattle.block.specs.Blocks.{code_of};
 ghost use Rattle.hier.specs.Calls.{data_end, Makes, Reads};

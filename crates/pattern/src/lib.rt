@@ -1,5 +1,6 @@
 // Test patterns: the generator, the counter of errors and its report.
 #![tactic(auto)]
+
 mod counter;
 mod generator;
 mod range;

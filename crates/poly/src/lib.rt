@@ -1,6 +1,7 @@
 // Division by g of polynomials over two elements, the long division of Lin and Costello. A polynomial is held as a number: bit i is the
 // coefficient of x^i. To add two and to take one away from another are the same, the exclusive-or.
 #![tactic(auto)]
+
 ghost use Rattle.std.specs.Prelude.{◌≡◌};
 ghost use Rattle.poly.specs.Poly.{word_bits, rem};
 

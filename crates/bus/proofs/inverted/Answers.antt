@@ -1,6 +1,5 @@
 -- `inverted` is what is missing from all ones.
 use native.Mathlib.Omega.{arith}
-use borrow.Author.Rules.{rules}
 use Rattle.bus.proofs.Range.{shifted}
 use Rattle.bus.proofs.Inverse.{inverted_is}
 use Rattle.bus.proofs.inverted.Goals as goal

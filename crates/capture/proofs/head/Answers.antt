@@ -1,8 +1,7 @@
 -- `capture::head` meets its contract: the length is tested, then the numbers that stand where a trailer would are judged.
 use mathlib.Core.Path.{refl}
 use native.Mathlib.Omega.{arith}
-use borrow.Author.Rules.{rules}
-use Rattle.filing.specs.Refused.{over_size, without_tag}
+use Rattle.filing.specs.Refused.{without_tag}
 use Rattle.filing.proofs.Trailer.{marks_of_lem}
 use Rattle.capture.proofs.Calls.{judged_heads}
 use Rattle.capture.proofs.head.Goals as goal

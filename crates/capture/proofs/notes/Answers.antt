@@ -1,15 +1,10 @@
 -- `capture::notes` meets its contract: the part behind the frames that `head` counted, or the empty one.
-use mathlib.Core.Path.{◌≡◌, refl, ap, subst}
-use mathlib.Core.Logic.{inl, inr}
+use mathlib.Core.Path.{ap}
+use mathlib.Core.Logic.{inl}
 use Prim.Native.Nat.{ℕ, ◌+◌, ◌-◌, ◌*◌}
 use native.Mathlib.Omega.{arith}
-use borrow.Author.Rules.{rules}
 use lib.ListN.{length}
-use Rattle.capture.specs.Answers.{answer}
-use Rattle.capture.specs.Calls.{Heads}
 use Rattle.capture.specs.declared.Label.{Label}
-use Rattle.capture.specs.declared.Labelled.{Labelled}
-use Rattle.capture.specs.declared.Labelled.TheVariants.{Found, Refused}
 use Rattle.capture.proofs.Calls.{Opened, opened, notes_read}
 use Rattle.capture.proofs.notes.Goals as goal
 

@@ -1,16 +1,11 @@
 -- `capture::read` meets its contract: room is asked first, then what `head` answers decides.
-use mathlib.Core.Path.{◌≡◌, refl, ap, ◌∙◌, subst}
+use mathlib.Core.Path.{refl, ap, ◌∙◌}
 use mathlib.Core.List.{List}
 use Prim.Native.Nat.{ℕ}
 use native.Mathlib.Omega.{arith}
-use borrow.Author.Rules.{rules}
-use borrow.Author.Tests.{lt-leb, le-leb}
+use borrow.Author.Tests.{le-leb}
 use Rattle.laws.specs.Lent.{◌over◌}
-use Rattle.capture.specs.Answers.{answer}
-use Rattle.capture.specs.Calls.{Heads}
-use Rattle.capture.specs.declared.Labelled.{Labelled}
-use Rattle.capture.specs.declared.Labelled.TheVariants.{Found, Refused}
-use Rattle.capture.proofs.Calls.{Opened, opened, frames_read, lent_unfit, lent_fits}
+use Rattle.capture.proofs.Calls.{Opened, opened, frames_read, lent_fits}
 use Rattle.capture.proofs.read.Goals as goal
 
 pub take_frames-requires : goal.take_frames-requires

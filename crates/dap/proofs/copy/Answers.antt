@@ -1,10 +1,10 @@
 -- `copy`: the output is the part of the data passed over its front.
-use mathlib.Core.Path.{◌≡◌, refl, ap, ◌∙◌}
+use mathlib.Core.Path.{refl, ap, ◌∙◌}
 use mathlib.Core.List.{List}
-use Prim.Native.Nat.{ℕ, ◌-◌, ◌≤◌}
+use Prim.Native.Nat.{ℕ}
 use native.Mathlib.Omega.{arith}
-use lib.ListN.{length, get_or, set, length-set}
-use Rattle.laws.proofs.Front.{front, front_none, front_more, front_all}
+use lib.ListN.{get_or, set, length-set}
+use Rattle.laws.proofs.Front.{front_none, front_more, front_all}
 use Rattle.dap.proofs.copy.Goals as goal
 
 pub loop-i-init : goal.loop-i-init

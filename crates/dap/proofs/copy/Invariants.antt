@@ -1,10 +1,8 @@
 -- `copy`: the output is the part of the data passed over its front.
-use mathlib.Core.Path.{◌≡◌, refl, ap, ◌∙◌}
-use mathlib.Core.List.{List}
-use Prim.Native.Nat.{ℕ, ◌-◌, ◌≤◌}
-use native.Mathlib.Omega.{arith}
-use lib.ListN.{length, get_or, set, length-set}
-use Rattle.laws.proofs.Front.{front, front_none, front_more, front_all}
+use mathlib.Core.Path.{◌≡◌}
+use Prim.Native.Nat.{◌-◌, ◌≤◌}
+use lib.ListN.{length}
+use Rattle.laws.proofs.Front.{front}
 use Rattle.dap.proofs.copy.Given as goal
 
 abbrev pub invariant-loop-i : goal.invariant-loop-i

@@ -1,9 +1,5 @@
 -- `differing`: the bits counted and those that differ in what is left are those of the whole.
-use mathlib.Core.Path.{◌≡◌}
-use Prim.Native.Nat.{◌+◌, ◌*◌, ◌-◌, ◌≤◌}
 use native.Mathlib.Omega.{arith}
-use lib.ListN.{length, drop}
-use Rattle.dap.specs.Copies.{diffs}
 use Rattle.dap.proofs.Loops.{diffs_step, byte_diff, diffs_end}
 use Rattle.dap.proofs.differing.Goals as goal
 

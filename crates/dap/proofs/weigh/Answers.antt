@@ -1,10 +1,7 @@
 -- `weigh`: what is counted and the weight of what is left are the weight of the whole.
-use mathlib.Core.Path.{◌≡◌}
-use Prim.Native.Nat.{◌+◌, ◌*◌, ◌-◌, ◌≤◌}
 use native.Mathlib.Omega.{arith}
-use lib.ListN.{length, drop, get_or}
+use lib.ListN.{get_or}
 use lib.Count.{ones-le}
-use Rattle.dap.specs.Copies.{weight}
 use Rattle.dap.proofs.Loops.{weight_step, weight_end}
 use Rattle.dap.proofs.weigh.Goals as goal
 

@@ -1,11 +1,8 @@
 -- `weigh`: what is counted and the weight of what is left are the weight of the whole.
 use mathlib.Core.Path.{◌≡◌}
 use Prim.Native.Nat.{◌+◌, ◌*◌, ◌-◌, ◌≤◌}
-use native.Mathlib.Omega.{arith}
-use lib.ListN.{length, drop, get_or}
-use lib.Count.{ones-le}
+use lib.ListN.{length, drop}
 use Rattle.dap.specs.Copies.{weight}
-use Rattle.dap.proofs.Loops.{weight_step, weight_end}
 use Rattle.dap.proofs.weigh.Given as goal
 
 abbrev pub invariant-loop-i : goal.invariant-loop-i

@@ -2,7 +2,6 @@
 use mathlib.Core.Path.{sym, ap, ◌∙◌}
 use Prim.Native.Nat.{ℕ, ◌+◌, ◌*◌, ◌/◌, ◌%◌}
 use native.Mathlib.Nat.{div-one}
-use borrow.Author.Rules.{rules}
 use Rattle.block.specs.Symbols.{member}
 use Rattle.block.specs.Blocks.{block_of}
 use Rattle.block.proofs.Laws.{ap₄}

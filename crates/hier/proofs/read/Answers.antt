@@ -2,9 +2,8 @@
 use mathlib.Core.Path.{◌≡◌, sym, ap, ap₂, ◌∙◌, subst}
 use Prim.Native.Nat.{ℕ, ◌+◌, ◌*◌, ◌≤◌, ◌<◌}
 use native.Mathlib.Omega.{arith}
-use borrow.Author.Rules.{rules}
 use Rattle.hier.specs.Calls.{ReadAs}
-use Rattle.block.specs.Parts.{near₀, near₁, near₂, near₃, halves, digits, total}
+use Rattle.block.specs.Parts.{halves, digits, total}
 use Rattle.block.proofs.Laws.{ap₄}
 use Rattle.hier.proofs.Answers.{word, none, eighth_near}
 use Rattle.hier.proofs.read.Goals as goal

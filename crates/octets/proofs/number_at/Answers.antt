@@ -1,7 +1,6 @@
 -- `octets::number_at` meets its contract, by `joined_eight`.
 use mathlib.Core.Path.{ap₂, ◌∙◌}
 use Prim.Native.Nat.{ℕ, ◌+◌, ◌*◌, ◌^◌}
-use borrow.Author.Rules.{rules}
 use Rattle.radix.proofs.Joined.{joined_eight}
 use Rattle.octets.proofs.number_at.Goals as goal
 

@@ -1,8 +1,5 @@
 -- `octets::put_eight` meets its contract: eight stores.
 use mathlib.Core.Path.{◌∙◌}
-use native.Mathlib.Omega.{arith}
-use borrow.Author.Rules.{rules}
-use lib.ListN.{length-set}
 use Rattle.radix.proofs.Stored.{eight_stores, eight_is}
 use Rattle.octets.proofs.put_eight.Goals as goal
 

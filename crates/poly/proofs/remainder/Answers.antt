@@ -1,10 +1,8 @@
 -- `poly::remainder` meets its contract: each turn of its loop is one step of long division by hand.
 use mathlib.Core.Path.{sym, ◌∙◌, subst}
-use mathlib.Core.Logic.{⊎_elim}
 use Prim.Native.Nat.{ℕ, suc, ◌%◌, ◌/◌, ◌^◌}
 use native.Mathlib.Nat.{mod-lt}
 use native.Mathlib.Omega.{arith}
-use borrow.Author.Rules.{rules}
 use lib.Pow.{pow_pos}
 use Rattle.poly.proofs.Division.{rem_low}
 use Rattle.poly.proofs.Steps.{Stands, begins, goes_on, turn_one, turn_zero, ends}

@@ -1,19 +1,14 @@
 -- `capture::bytes::read_bytes` meets its contract, as `read` does, with the frames' bytes copied as they stand.
-use mathlib.Core.Path.{◌≡◌, refl, sym, ap, ◌∙◌, subst}
-use mathlib.Core.Bool.{true, false}
+use mathlib.Core.Path.{◌≡◌, refl, sym, ap, ◌∙◌}
+use mathlib.Core.Bool.{true}
 use mathlib.Core.List.{List}
-use Prim.Native.Nat.{ℕ, ◌*◌}
+use Prim.Native.Nat.{ℕ}
 use native.Mathlib.Omega.{arith}
-use borrow.Author.Rules.{rules}
-use borrow.Author.Tests.{lt-leb, le-leb, eq-eqb, ne_eqb}
-use lib.ListN.{length, take}
+use borrow.Author.Tests.{le-leb, eq-eqb}
 use lib.Seq.{length-take-le}
 use Rattle.laws.specs.Lent.{◌over◌}
-use Rattle.capture.specs.Answers.{answer}
-use Rattle.capture.specs.Calls.{Heads, fits_bytes}
-use Rattle.capture.specs.declared.Labelled.{Labelled}
-use Rattle.capture.specs.declared.Labelled.TheVariants.{Found, Refused}
-use Rattle.capture.proofs.Calls.{Opened, opened, bytes_read, lent_unfit, lent_fits}
+use Rattle.capture.specs.Calls.{fits_bytes}
+use Rattle.capture.proofs.Calls.{Opened, opened, bytes_read, lent_fits}
 use Rattle.capture.proofs.bytes.read_bytes.Goals as goal
 
 pub slice_bounds-copy-end : goal.slice_bounds-copy-end

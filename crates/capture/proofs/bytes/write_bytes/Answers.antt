@@ -1,17 +1,11 @@
 -- `capture::bytes::write_bytes` meets its contract, as `write` does: whole eights are the bytes of their numbers.
-use mathlib.Core.Path.{◌≡◌, sym, ap, ◌∙◌}
+use mathlib.Core.Path.{ap, ◌∙◌}
 use mathlib.Core.List.{List, ◌++◌}
 use Prim.Native.Nat.{ℕ, ◌*◌, ◌/◌}
-use native.Mathlib.Omega.{arith}
-use borrow.Author.Rules.{rules}
 use lib.ListN.{length, take}
 use Rattle.laws.specs.Lent.{◌over◌}
-use Rattle.laws.proofs.Writing.{over_length}
-use Rattle.capture.specs.Answers.{filed}
-use Rattle.capture.specs.Parts.{fitting, ending}
-use Rattle.capture.specs.declared.Filed.{Filed}
-use Rattle.capture.specs.declared.Filed.TheVariants.{Length, Refused}
-use Rattle.capture.proofs.Writes.{Fits, fits, ragged_refuses, bytes_refuse, bytes_file}
+use Rattle.capture.specs.Parts.{ending}
+use Rattle.capture.proofs.Writes.{bytes_refuse, bytes_file}
 use Rattle.capture.proofs.bytes.write_bytes.Goals as goal
 
 pub returns-in-Length : goal.returns-in-Length

@@ -1,19 +1,13 @@
 -- `capture::filling::fill` meets its contract: what fits is laid down part by part, and what does not is left alone.
-use mathlib.Core.Path.{◌≡◌, sym, ap, ◌∙◌}
+use mathlib.Core.Path.{sym, ap, ◌∙◌}
 use mathlib.Core.List.{List, ◌++◌}
 use Prim.Native.Nat.{ℕ, ◌*◌}
-use native.Mathlib.Omega.{arith}
-use borrow.Author.Rules.{rules}
 use lib.ListN.{length, take}
 use Rattle.laws.specs.Lent.{◌over◌}
-use Rattle.laws.proofs.Writing.{over_length}
-use Rattle.radix.specs.Octets.{bytes_of}
 use Rattle.filing.specs.File.{kept}
 use Rattle.capture.specs.Answers.{filed}
-use Rattle.capture.specs.Parts.{fitting, ending}
-use Rattle.capture.specs.declared.Filed.{Filed}
-use Rattle.capture.specs.declared.Filed.TheVariants.{Length, Refused}
-use Rattle.capture.proofs.Writes.{Fits, fits, files, refuses}
+use Rattle.capture.specs.Parts.{ending}
+use Rattle.capture.proofs.Writes.{files, refuses}
 use Rattle.capture.proofs.filling.fill.Goals as goal
 
 pub returns-in-Length : goal.returns-in-Length

@@ -1,16 +1,10 @@
 -- `capture::filling::put_frames` meets its contract: after n turns the bytes of the first n frames stand at the front.
-use mathlib.Core.Path.{◌≡◌, sym, ap, ◌∙◌}
-use mathlib.Core.List.{List, ◌++◌}
-use Prim.Native.Nat.{ℕ, ◌+◌, ◌-◌, ◌*◌, ◌≤◌, ◌<◌}
-use native.Mathlib.Omega.{arith}
-use borrow.Author.Rules.{rules}
-use lib.ListN.{length, get_or, take, drop, length-take, length-drop}
-use lib.Seq.{length-take-le, take-length}
+use mathlib.Core.Path.{◌≡◌}
+use mathlib.Core.List.{List}
+use Prim.Native.Nat.{ℕ, ◌-◌, ◌≤◌}
+use lib.ListN.{length, take}
 use Rattle.laws.specs.Lent.{◌over◌}
-use Rattle.laws.proofs.Writing.{over_none, over_length}
-use Rattle.radix.specs.Octets.{eight, bytes_of}
-use Rattle.radix.proofs.Stored.{length_eight, length_bytes}
-use Rattle.capture.proofs.Fronts.{part_over, over_again, frame_more}
+use Rattle.radix.specs.Octets.{bytes_of}
 use Rattle.capture.proofs.filling.put_frames.Given as goal
 
 pub record Laid (fs o₀ : List ℕ) (n : ℕ) (o : List ℕ) : Type 0 where

@@ -1,11 +1,7 @@
 -- `capture::filling::take_frames` meets its contract: after n turns the first n frames stand at the front.
-use Prim.Native.Nat.{◌-◌, ◌≤◌, ◌/◌}
-use native.Mathlib.Omega.{arith}
-use borrow.Author.Rules.{rules}
-use lib.ListN.{length}
+use Prim.Native.Nat.{◌-◌, ◌≤◌}
 use Rattle.radix.specs.Octets.{numbers_of}
-use Rattle.radix.proofs.Joined.{numbers_len}
-use Rattle.capture.proofs.Fronts.{Upto, upto_none, upto_size, upto_more, upto_end}
+use Rattle.capture.proofs.Fronts.{Upto}
 use Rattle.capture.proofs.filling.take_frames.Given as goal
 
 abbrev pub invariant-loop-n : goal.invariant-loop-n

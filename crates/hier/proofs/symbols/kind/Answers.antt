@@ -1,7 +1,6 @@
 -- `kind` is the entry of the table of kinds.
 use mathlib.Core.Path.{sym, subst}
 use Prim.Native.Nat.{ℕ, ◌≤◌}
-use borrow.Author.Rules.{rules}
 use Rattle.block.proofs.Tables.{kind_le}
 use Rattle.hier.proofs.symbols.kind.Goals as goal
 

@@ -1,7 +1,6 @@
 -- `nearest` is the digit of the subset's row.
 use mathlib.Core.Path.{sym, subst}
 use Prim.Native.Nat.{ℕ, ◌<◌}
-use borrow.Author.Rules.{rules}
 use Rattle.block.proofs.Tables.{near_lt}
 use Rattle.hier.proofs.symbols.nearest.Goals as goal
 

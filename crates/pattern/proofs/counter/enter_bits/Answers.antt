@@ -2,8 +2,7 @@
 use mathlib.Core.Path.{sym, ap, ◌∙◌}
 use Prim.Native.Nat.{ℕ, ◌+◌}
 use native.Mathlib.Omega.{arith}
-use borrow.Author.Rules.{rules}
-use lib.Pow.{pow_mono, shl_lt, shl_exact}
+use lib.Pow.{shl_exact}
 use Rattle.pattern.specs.Counting.{count_of, holding}
 use Rattle.sequence.proofs.Whole.{fed_entering_by}
 use Rattle.pattern.proofs.counter.enter_bits.Goals as goal

@@ -1,17 +1,10 @@
 -- The invariant: what is left of the piece takes d where the whole piece takes c.
-use mathlib.Core.Path.{◌≡◌, refl, sym, ap, ◌∙◌, subst}
-use mathlib.Core.List.{List}
-use Prim.Native.Nat.{ℕ, suc, ◌+◌, ◌-◌, ◌*◌, ◌≤◌, ◌<◌}
-use native.Mathlib.Numerals.{add-one}
-use native.Mathlib.Omega.{arith}
-use lib.ListN.{length, drop, get_or}
-use lib.Seq.{drop-cons, drop-length}
-use Rattle.sequence.specs.Bits.{highest, bits_of}
-use Rattle.pattern.specs.Counting.{count_of, holding, fed_on}
-use Rattle.sequence.specs.Counting.{Steady, fed_bits}
-use Rattle.pattern.specs.declared.counter.Counter.{Counter}
-use Rattle.sequence.proofs.Digits.{length_highest, bits_highest}
-use Rattle.sequence.proofs.Fed.{fed_append, steady_fed, bits_fed}
+use mathlib.Core.Path.{◌≡◌}
+use Prim.Native.Nat.{◌+◌, ◌-◌, ◌*◌, ◌≤◌}
+use lib.ListN.{length, drop}
+use Rattle.sequence.specs.Bits.{bits_of}
+use Rattle.pattern.specs.Counting.{count_of, fed_on}
+use Rattle.sequence.specs.Counting.{Steady}
 use Rattle.pattern.proofs.counter.feed_bytes.Given as goal
 
 abbrev pub invariant-loop-i : goal.invariant-loop-i

@@ -2,8 +2,6 @@
 use mathlib.Core.Path.{◌≡◌, sym, ◌∙◌}
 use mathlib.Core.Bool.{true}
 use native.Mathlib.Omega.{arith}
-use borrow.Author.Tests.{lt-ltb, le-ltb}
-use borrow.Author.Rules.{rules}
 use Rattle.pattern.specs.Counting.{in_range}
 use Rattle.sequence.proofs.Taps.{taps}
 use Rattle.pattern.proofs.Sound.{sound}

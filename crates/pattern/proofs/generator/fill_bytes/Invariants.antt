@@ -1,12 +1,9 @@
 -- The invariant: the first i bytes of the buffer are the pattern's, the rest are as they were, and q is the register after them.
-use mathlib.Core.Path.{◌≡◌, refl, ap, ap₂, ◌∙◌}
-use mathlib.Core.List.{List}
-use Prim.Native.Nat.{ℕ, ◌-◌, ◌*◌, ◌^◌, ◌≤◌, ◌<◌}
-use native.Mathlib.Omega.{arith}
-use lib.ListN.{length, set, length-set}
-use Rattle.sequence.specs.Bits.{number}
-use Rattle.sequence.specs.Sequence.{onward, next_bits}
-use Rattle.sequence.proofs.Buffer.{upto, upto_none, upto_more, upto_all, onward_byte, onward_none}
+use mathlib.Core.Path.{◌≡◌}
+use Prim.Native.Nat.{◌-◌, ◌*◌, ◌^◌, ◌≤◌, ◌<◌}
+use lib.ListN.{length}
+use Rattle.sequence.specs.Sequence.{onward}
+use Rattle.sequence.proofs.Buffer.{upto}
 use Rattle.pattern.proofs.generator.fill_bytes.Given as goal
 
 abbrev pub invariant-loop-i : goal.invariant-loop-i

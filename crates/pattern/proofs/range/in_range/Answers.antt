@@ -1,10 +1,5 @@
 -- The test in three parts, as the law `parts` has it.
 use mathlib.Core.Path.{sym, ◌∙◌}
-use native.Mathlib.Omega.{arith}
-use borrow.Author.Rules.{rules}
-use Rattle.laws.proofs.Truth.{is_true}
-use Rattle.sequence.specs.Patterns.{pattern}
-use Rattle.sequence.proofs.Taps.{taps}
 use Rattle.pattern.proofs.Sound.{parts}
 use Rattle.pattern.proofs.range.in_range.Goals as goal
 

@@ -1,8 +1,6 @@
 -- Each return rewrites with the test that led there, and each conversion is of a number below 2 ^ 53.
-use native.Mathlib.Omega.{arith}
-use borrow.Author.Tests.{eq-eqb, ne_eqb}
+use borrow.Author.Tests.{eq-eqb}
 use lib.Ieee.{of_bits, of_int}
-use Rattle.pattern.proofs.Exact.{cast_ok}
 use Rattle.pattern.proofs.report.rated.Goals as goal
 
 pub returns-then-errors-eq0 : goal.returns-then-errors-eq0

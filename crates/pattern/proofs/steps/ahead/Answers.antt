@@ -2,9 +2,8 @@
 use mathlib.Core.Path.{◌≡◌, sym, ap₂, ◌∙◌, subst}
 use Prim.Native.Nat.{ℕ, ◌-◌, ◌*◌, ◌/◌, ◌%◌, ◌^◌, ◌<◌}
 use native.Mathlib.Omega.{arith}
-use borrow.Author.Rules.{rules}
 use lib.Bits.{bit_xor}
-use lib.Pow.{pow_pos, shl_exact}
+use lib.Pow.{shl_exact}
 use Rattle.sequence.specs.Bits.{number}
 use Rattle.sequence.specs.Sequence.{next_bits}
 use Rattle.sequence.proofs.Numbers.{one_shl}

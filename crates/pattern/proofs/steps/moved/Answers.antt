@@ -2,8 +2,7 @@
 use mathlib.Core.Path.{◌≡◌, sym, ap, ap₂, ◌∙◌, subst}
 use Prim.Native.Nat.{ℕ, ◌+◌, ◌*◌, ◌%◌, ◌^◌, ◌<◌}
 use native.Mathlib.Omega.{arith}
-use borrow.Author.Rules.{rules}
-use lib.Pow.{pow_pos, pow_mono, shl_lt, shl_exact}
+use lib.Pow.{shl_exact}
 use Rattle.sequence.specs.Sequence.{onward}
 use Rattle.sequence.proofs.Numbers.{one_shl}
 use Rattle.sequence.proofs.Steps.{onward_number, onward_lt}

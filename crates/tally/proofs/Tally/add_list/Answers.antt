@@ -3,14 +3,13 @@ use mathlib.Core.Path.{◌≡◌, sym, ◌∙◌, subst}
 use mathlib.Core.Bool.{true}
 use Prim.Native.Nat.{◌+◌, ◌-◌, ◌≤◌, ◌<◌}
 use native.Mathlib.Omega.{arith}
-use borrow.Author.Rules.{rules}
-use borrow.Author.Tests.{not-true, not-false, leb-true, leb-false}
+use borrow.Author.Tests.{leb-true, leb-false}
 use lib.ListN.{length}
 use Rattle.paper.specs.Numbers.{most_counted}
 use Rattle.tally.specs.Ranges.{frames_in, in_range}
 use Rattle.tally.specs.Calls.{Adds}
 use Rattle.tally.specs.Parts.{Alike}
-use Rattle.tally.proofs.Ranges.{few_frames, few_pads, few_checks, short_current, short_longest}
+use Rattle.tally.proofs.Ranges.{few_frames}
 use Rattle.tally.proofs.Answers.{refuse_unequal, refuse_range, refuse_past, accept}
 use Rattle.tally.proofs.Tally.add_list.Goals as goal
 

@@ -2,13 +2,10 @@
 use mathlib.Core.Path.{◌≡◌, sym, ap₂, ◌∙◌}
 use mathlib.Core.Bool.{Bool, true}
 use Prim.Native.Nat.{ℕ}
-use borrow.Author.Rules.{rules}
-use borrow.Author.Tests.{not-true, not-false}
 use Rattle.paper.specs.Numbers.{outside, unless}
 use Rattle.paper.specs.Answer.{owed}
 use Rattle.tally.specs.Ranges.{in_range}
 use Rattle.tally.specs.Calls.{Sums}
-use Rattle.tally.proofs.Ranges.{few_frames}
 use Rattle.tally.proofs.Tally.frames.Goals as goal
 
 pub returns-then-not-in_range : goal.returns-then-not-in_range

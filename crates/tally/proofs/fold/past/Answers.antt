@@ -1,12 +1,7 @@
 -- `tally::fold::past` meets its contract.
-use mathlib.Core.Path.{sym, ap, subst}
-use native.Mathlib.Omega.{arith}
-use borrow.Author.Rules.{rules}
-use lib.ListN.{length}
-use Rattle.tally.specs.Counts.{fresh}
+use mathlib.Core.Path.{ap, subst}
 use Rattle.tally.specs.Answers.{answer}
-use Rattle.tally.specs.Parts.{Spare, Folds}
-use Rattle.tally.specs.declared.Tally.{Tally}
+use Rattle.tally.specs.Parts.{Folds}
 use Rattle.tally.proofs.Answers.{past_told, past_new}
 use Rattle.tally.proofs.fold.past.Goals as goal
 

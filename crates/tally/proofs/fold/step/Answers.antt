@@ -3,10 +3,9 @@ use mathlib.Core.Path.{◌≡◌, refl, ap, ◌∙◌}
 use mathlib.Core.Bool.{true}
 use Prim.Native.Nat.{ℕ, ◌≤◌}
 use native.Mathlib.Omega.{arith}
-use borrow.Author.Rules.{rules}
 use Rattle.tally.specs.Ranges.{is_flag, flips_of, is_known}
 use Rattle.tally.specs.Fold.{step}
-use Rattle.tally.proofs.Verdicts.{flag_few, parts, at_most_two}
+use Rattle.tally.proofs.Verdicts.{parts}
 use Rattle.tally.proofs.Steps.{tally_eq}
 use Rattle.tally.proofs.Numbers.{one, here, absent, added, flagged, ended, passed, unflagged}
 use Rattle.tally.proofs.fold.step.Goals as goal

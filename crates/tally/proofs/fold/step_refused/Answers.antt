@@ -3,7 +3,6 @@ use mathlib.Core.Path.{sym, ap, ◌∙◌}
 use Prim.Native.Nat.{◌<◌, max}
 use native.Mathlib.Nat.{add-zero}
 use native.Mathlib.Omega.{arith}
-use borrow.Author.Rules.{rules}
 use Rattle.tally.specs.Fold.{step}
 use Rattle.tally.proofs.Steps.{tally_eq}
 use Rattle.tally.proofs.Numbers.{absent, added, lengthened, unpadded}

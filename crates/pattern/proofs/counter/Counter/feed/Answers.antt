@@ -1,6 +1,5 @@
 -- A refusal is the law `refused_by`; the taps are those of the one pattern or the other.
 use mathlib.Core.Path.{refl, sym, ◌∙◌}
-use borrow.Author.Rules.{rules}
 use Rattle.sequence.proofs.Taps.{other}
 use Rattle.pattern.proofs.Sound.{sound}
 use Rattle.pattern.proofs.Answers.{refused_by, inside}

@@ -1,8 +1,6 @@
 -- Each return rewrites with the tests that led there.
-use mathlib.Core.Path.{◌≡◌, sym, ap, ◌∙◌}
-use mathlib.Core.Bool.{true, not}
-use borrow.Author.Tests.{eq-eqb, ne_eqb, not-false}
-use borrow.Author.Rules.{rules}
+use mathlib.Core.Path.{◌≡◌, sym, ◌∙◌}
+use mathlib.Core.Bool.{true}
 use Rattle.pattern.specs.Counting.{in_range}
 use Rattle.pattern.proofs.Sound.{sound}
 use Rattle.pattern.proofs.counter.Counter.report.Goals as goal

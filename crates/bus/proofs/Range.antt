@@ -1,6 +1,6 @@
--- What `inRange` tests, as facts; and the number of a bus's wire patterns, as the code computes it.
+-- What `in_range` tests, as facts; and the number of a bus's wire patterns, as the code computes it.
 -- ┌──────────────┬───────────────────────────────────────────────────────────────────┐
--- │ InRange b    │ the four facts that `inRange` tests                               │
+-- │ InRange b    │ the four facts that `in_range` tests                              │
 -- │ in_range_lem │ from the test to the facts                                        │
 -- │ past_wires   │ where the data wires are right, the invert wire decides           │
 -- │ is_in_range  │ from the facts to the test                                        │

@@ -5,7 +5,7 @@
 -- │                 │ wire                                                             │
 -- │ plain w y       │ data y sent as it is, the invert wire cleared                    │
 -- │ turned_over w y │ data y sent inverted, the invert wire set                        │
--- │ inRange b       │ width 1 to 31, no wire set above it, invert wire 0 or 1          │
+-- │ in_range b      │ width 1 to 31, no wire set above it, invert wire 0 or 1          │
 -- │ changes b n     │ how many of the width + 1 wires, the invert wire among them,     │
 -- │                 │ differ between two states                                        │
 -- │ crowded b y     │ the rule by which the sender inverts: of the two candidates, y   │

@@ -6,7 +6,7 @@ use mathlib.Core.Path.{◌≡◌, refl, sym, ap, ◌∙◌, subst}
 use mathlib.Core.Bool.{Bool, true, false, cond, ◌&&◌, and-false}
 use mathlib.Core.List.{List, [], ◌∷◌}
 use mathlib.Core.Logic.{inl, inr}
-use Prim.Native.Nat.{ℕ, ◌+◌, ◌-◌, ◌^◌, ◌<◌, ◌≤◌}
+use Prim.Native.Nat.{ℕ, ◌-◌, ◌^◌, ◌<◌, ◌≤◌}
 use native.Mathlib.Decide.{dec_le}
 use native.Mathlib.Omega.{arith}
 use lib.Dec.{ltb, leb, lit<, lit≤}
@@ -16,7 +16,6 @@ use Rattle.paper.specs.Answer.{Answer, gives, refused}
 use Rattle.paper.proofs.Answer.{never_both}
 use Rattle.poly.specs.Poly.{rem}
 use Rattle.bch.specs.Code.{position, distance}
-use Rattle.bch.specs.Corrections.{places}
 use Rattle.bch.proofs.Nearest as bch
 use Rattle.bch.proofs.FiveApart.{five_apart, triangle, differences_sym}
 use Rattle.frame.specs.Word.{word_of, pad_of, RunsRight, Lawful, data_of}

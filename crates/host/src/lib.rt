@@ -1,5 +1,6 @@
 // The entries towards C: thin, each with the contract of the call behind it, on numbers and bytes.
 #![tactic(auto)]
+
 ghost use Rattle.std.specs.Prelude.{◌≡◌, ◌≤◌, length, get_or};
 ghost use Rattle.paper.specs.Answer.{numbered};
 ghost use Rattle.laws.specs.Lent.{◌to◌};

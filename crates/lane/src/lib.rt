@@ -1,5 +1,6 @@
 // The count of a lane: bytes to frames, frames to verdicts, pad flags and check flips, these to the tally.
 #![tactic(auto)]
+
 ghost use Rattle.std.specs.Prelude.{◌≡◌, true, ◌/◌, ◌%◌, length};
 ghost use Rattle.laws.specs.Lent.{lent};
 ghost use Rattle.tally.specs.Ranges.{in_range};

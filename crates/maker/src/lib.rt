@@ -1,5 +1,6 @@
 // The maker of frames: of one data word, of a list, of a list of bytes.
 #![tactic(auto)]
+
 ghost use Rattle.std.specs.Prelude.{◌≡◌};
 ghost use Rattle.paper.specs.Answer.{listed};
 ghost use Rattle.laws.specs.Lent.{◌to◌};

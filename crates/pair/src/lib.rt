@@ -1,5 +1,6 @@
 // Pairs for bursts: two frames go out bit by bit in turn, as two words, and are taken apart and read again.
 #![tactic(auto)]
+
 ghost use Rattle.paper.specs.Answer.{listed};
 ghost use Rattle.laws.specs.Lent.{◌to◌};
 ghost use Rattle.pairing.specs.Order.{Interleaved};

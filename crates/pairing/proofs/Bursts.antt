@@ -2,7 +2,8 @@
 -- ┌──────────────┬───────────────────────────────────────────────────────────────┐
 -- │ few          │ words that differ only inside a stretch of m positions differ │
 -- │              │ in at most m                                                  │
--- │ burst_mended │ the claim of specs/Claims.antt                                │
+-- │ burst_mended │ the claims of specs/Claims.antt by these names                │
+-- │ longer_lost  │                                                               │
 -- └──────────────┴───────────────────────────────────────────────────────────────┘
 use mathlib.Core.Path.{◌≡◌, refl, sym, ap, ◌∙◌, subst}
 use mathlib.Core.Bool.{Bool, true, false, ◌||◌, not, cond}
@@ -25,11 +26,12 @@ use Rattle.decoding.specs.Reads.{ReadAs, Reads}
 use Rattle.decoding.proofs.Demands.{beyond}
 use Rattle.decoding.proofs.Demands.{near as Near-word}
 use Rattle.decoding.proofs.Exactly.{senders_data}
-use Rattle.pairing.specs.Order.{Pair, both, Interleaved}
+use Rattle.pairing.specs.Order.{Pair, both, Interleaved, Whole}
 use Rattle.pairing.specs.Answers.{ReadBoth, ComesBack}
-use Rattle.pairing.specs.Bursts.{longest_burst, Burst, Flipped}
-use Rattle.pairing.specs.Claims.{BurstMended, LongerLost}
+use Rattle.pairing.specs.Bursts.{longest_burst, Within, Burst, Flipped}
+use Rattle.pairing.specs.Claims.{BurstMended, LongerLost, LongerLostBoth}
 use Rattle.pairing.proofs.Order.{line_at, sent_as, sent_lt, taken, one_taking}
+use Rattle.pairing.proofs.Made.{some_both}
 use Rattle.pairing.proofs.Example.{twins, doubled, bent, struck, twins_sent, bent_sent}
 
 Apart : ℕ → ℕ → ℕ → Type 0
@@ -109,23 +111,33 @@ struck? n = eqb n 0 || (eqb n 2 || eqb n 4)
 flip? : ℕ → Bool
 flip? n = eqb (line_bit (both struck) n) (cond (struck? n) (opposite (line_bit (both doubled) n)) (line_bit (both doubled) n))
 
+first_five : (n : ℕ) (a b c : Bool) → eqb n 0 ≡ a → eqb n 2 ≡ b → eqb n 4 ≡ c → (a || (b || c)) ≡ true → n < longest_burst + 1
+first_five n true b c x y z e = omega (arith, eqb-true n 0 x)
+first_five n false true c x y z e = omega (arith, eqb-true n 2 y)
+first_five n false false true x y z e = omega (arith, eqb-true n 4 z)
+first_five n false false false x y z e = absurd (subst T (sym e) tt)
+
+early : (n : ℕ) → struck? n ≡ true → n < longest_burst + 1
+unfolding struck?
+early n = first_five n (eqb n 0) (eqb n 2) (eqb n 4) refl refl refl
+
+flips : Flipped struck? doubled struck
+unfolding struck? flip?
+flips n h = eqb→eq _ _ (below flip? 128 tt n h)
+
+gone : (a : Pair (Answer Found)) → ReadBoth struck a → ComesBack 0x0000FFFF0000 a.first → ⊥
+unfolding differing
+gone a w =
+    lost 0x0000FFFF0000 twins.first bent.first example_frame (lit< tt) a.first
+    (subst (λ (p : Pair ℕ). Reads p.first a.first) (one_taking w.frames bent struck w.order bent_sent) w.first)
+
 pub longer_lost : LongerLost
-unfolding struck? flip? differing
 longer_lost = (0x0000FFFF0000, twins, doubled, struck, struck?, example_frame, twins_sent, early, flips, gone)
-  where
-    first_five : (n : ℕ) (a b c : Bool) → eqb n 0 ≡ a → eqb n 2 ≡ b → eqb n 4 ≡ c → (a || (b || c)) ≡ true → n < longest_burst + 1
-    first_five n true b c x y z e = omega (arith, eqb-true n 0 x)
-    first_five n false true c x y z e = omega (arith, eqb-true n 2 y)
-    first_five n false false true x y z e = omega (arith, eqb-true n 4 z)
-    first_five n false false false x y z e = absurd (subst T (sym e) tt)
 
-    early : (n : ℕ) → struck? n ≡ true → n < longest_burst + 1
-    early n = first_five n (eqb n 0) (eqb n 2) (eqb n 4) refl refl refl
-
-    flips : Flipped struck? doubled struck
-    flips n h = eqb→eq _ _ (below flip? 128 tt n h)
-
-    gone : (a : Pair (Answer Found)) → ReadBoth struck a → ComesBack 0x0000FFFF0000 a.first → ⊥
-    gone a w =
-        lost 0x0000FFFF0000 twins.first bent.first example_frame (lit< tt) a.first
-        (subst (λ (p : Pair ℕ). Reads p.first a.first) (one_taking w.frames bent struck w.order bent_sent) w.first)
+pub longer_lost_both : LongerLostBoth
+longer_lost_both =
+    let d : ℕ = 0x0000FFFF0000 in
+    let whole : Whole struck = (lit< tt, lit< tt) in
+    let (a, w) = some_both struck whole in
+    let all : Within (longest_burst + 1) struck? = (0, λ n e. (omega arith, omega (arith, early n e))) in
+    (d, d, twins, doubled, struck, example_frame, example_frame, twins_sent, struck?, all, whole, flips, a, w, λ c. gone a w c.0)

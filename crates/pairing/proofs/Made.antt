@@ -14,7 +14,7 @@ use Rattle.laws.proofs.Bits.{bit_above}
 use Rattle.laws.proofs.Xor.{bit-lt}
 use Rattle.frame.specs.Line.{line_bit}
 use Rattle.decoding.proofs.Demands.{some_answer}
-use Rattle.pairing.specs.Order.{Pair, both, origin, Whole, Interleaved}
+use Rattle.pairing.specs.Order.{Pair, both, origin, Whole}
 use Rattle.pairing.specs.Claims.{SomeSending, SomeTaking, SomeBoth}
 use Rattle.pairing.proofs.Order.{first_bit, second_bit, sent_as, origin_lt}
 

@@ -14,6 +14,8 @@
 -- │ BurstMended     │ both data words of two lawful frames come back from any     │
 -- │                 │ burst anywhere                                              │
 -- │ LongerLost      │ a burst of one position more can lose a data word           │
+-- │ LongerLostBoth  │ of two lawful frames, read as it may be: some such flips    │
+-- │                 │ anywhere lose one of the two data words                     │
 -- │ RunsAlternating │ two lines without a run longer than m, bit by bit in turn,  │
 -- │                 │ have none longer than 2 m                                   │
 -- │ PairRunBound    │ a line of pairs of lawful frames has no run longer than     │
@@ -29,7 +31,7 @@ use Rattle.decoding.specs.Found.{Found}
 use Rattle.decoding.specs.Reads.{Reads}
 use Rattle.pairing.specs.Order.{Pair, both, pairs_of, in_turn, origin, Whole, Interleaved}
 use Rattle.pairing.specs.Answers.{ReadBoth, ComesBack}
-use Rattle.pairing.specs.Bursts.{longest_burst, Burst, Flipped}
+use Rattle.pairing.specs.Bursts.{longest_burst, Within, Burst, Flipped}
 use Rattle.pairing.specs.Runs.{alternating, RunsWithin, longest_pair_run}
 
 abbrev pub AThenB : Type 0
@@ -74,6 +76,11 @@ abbrev pub LongerLost : Type 0
 LongerLost = (c : ℕ) × (p q r : Pair ℕ) × (S : ℕ → Bool) × FrameOf c p.first × Interleaved p q
     × ((n : ℕ) → S n ≡ true → n < longest_burst + 1) × Flipped S q r
     × ((a : Pair (Answer Found)) → ReadBoth r a → ComesBack c a.first → ⊥)
+
+abbrev pub LongerLostBoth : Type 0
+LongerLostBoth = (c d : ℕ) × (p q r : Pair ℕ) × FrameOf c p.first × FrameOf d p.second × Interleaved p q
+    × (S : ℕ → Bool) × Within (longest_burst + 1) S × Whole r × Flipped S q r × (a : Pair (Answer Found)) × ReadBoth r a
+    × (ComesBack c a.first × ComesBack d a.second → ⊥)
 
 abbrev pub RunsAlternating : Type 0
 RunsAlternating = (x y : ℕ → ℕ) (e m : ℕ) → RunsWithin x e m → RunsWithin y e m → RunsWithin (alternating x y) (2 * e) (2 * m)

@@ -3,7 +3,7 @@
 -- │ count_of c         │ what the counter c has counted                  │
 -- │ holding p d        │ the counter of pattern p that has counted d     │
 -- │ fed_on L T c xs    │ the counter after the bits xs, at the taps L, T │
--- │ inRange c          │ the state c is in its range                     │
+-- │ in_range c         │ the state c is in its range                     │
 -- │ fresh p            │ a counter of pattern p that was fed nothing     │
 -- │ fed_piece c piece  │ the counter after the bits of a piece           │
 -- └────────────────────┴─────────────────────────────────────────────────┘

@@ -1,5 +1,6 @@
 // What is printed: the listing of a lane's totals, and the account of a salvage.
 #![tactic(auto)]
+
 ghost use Rattle.std.specs.Prelude.{◌++◌, ◌+◌, ◌≤◌, length};
 ghost use Rattle.wording.specs.Text.{ascii, decimal, accepted_lines, refused_lines};
 ghost use Rattle.printout.specs.Calls.{Says};

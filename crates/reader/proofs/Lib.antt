@@ -2,3 +2,4 @@ pub mod ByTables
 pub mod Entries
 pub mod Turns
 pub mod OneAnswer
+pub mod Shown

@@ -7,14 +7,19 @@
 -- │ OneReadList  │ nor a second answer or list that of `read_list`                  │
 -- │ OneReadPads  │ that of `read_list_pads`                                         │
 -- │ OneReadBytes │ that of `read_bytes`                                             │
+-- │ ShownRead    │ a list shows a verdict of 0, 1 or 2 where a frame is read        │
+-- │ ShownRefused │ and 13 or 14 where it is refused, with data 0, pad flag 0 and no │
+-- │              │ check flips                                                      │
 -- └──────────────┴──────────────────────────────────────────────────────────────────┘
-use Rattle.std.specs.Prelude.{◌≡◌, List, ℕ, ◌^◌, ◌<◌, length, get_or}
-use Rattle.paper.specs.Answer.{Answer}
+use Rattle.std.specs.Prelude.{◌≡◌, List, ◌⊎◌, ℕ, ◌^◌, ◌<◌, ◌≤◌, length, get_or}
+use Rattle.paper.specs.Numbers.{no_word, run_broken}
+use Rattle.paper.specs.Answer.{Answer, gives, refused}
 use Rattle.laws.specs.Bits.{Octets}
 use Rattle.laws.specs.Lent.{Lent}
 use Rattle.tables.specs.Tables.{MendTable, ByteSums}
+use Rattle.decoding.specs.Found.{Found}
 use Rattle.decoding.specs.Reads.{Reads}
-use Rattle.reader.specs.Answers.{answer}
+use Rattle.reader.specs.Answers.{answer, verdict, data_in, pad_in, checks_in}
 use Rattle.reader.specs.ByTables.{read_by}
 use Rattle.reader.specs.Lists.{VerdictOf, ReadsList, ReadsPads, ReadsBytes}
 use Rattle.reader.specs.declared.Reading.{Reading}
@@ -47,3 +52,11 @@ abbrev pub OneReadBytes : Type 0
 OneReadBytes = (fs : List ℕ) (d d' v v' c c' : Lent) (a b : Answer Unit) → Octets fs
     → d.was ≡ d'.was → v.was ≡ v'.was → c.was ≡ c'.was
     → ReadsBytes fs d v c a → ReadsBytes fs d' v' c' b → (a ≡ b) × (d.is ≡ d'.is) × (v.is ≡ v'.is) × (c.is ≡ c'.is)
+
+abbrev pub ShownRead : Type 0
+ShownRead = (f : ℕ) (r : Found) → Reads f (gives r) → verdict (gives r) ≤ 2
+
+abbrev pub ShownRefused : Type 0
+ShownRefused =
+    (f n : ℕ) → Reads f (refused n) → let a = refused n in
+    ((verdict a ≡ no_word) ⊎ (verdict a ≡ run_broken)) × (data_in a ≡ 0) × (pad_in a ≡ 0) × (checks_in a ≡ 0)

@@ -1,5 +1,6 @@
 // The reader of frames: of any 64 received bits, of a list, of a list of bytes.
 #![tactic(auto)]
+
 ghost use Rattle.std.specs.Prelude.{◌≡◌, length};
 ghost use Rattle.paper.specs.Answer.{listed};
 ghost use Rattle.laws.specs.Lent.{◌to◌};

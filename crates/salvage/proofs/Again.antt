@@ -8,12 +8,12 @@
 -- │ second_run    │ the claim of specs/Claims.antt by this name                    │
 -- └───────────────┴────────────────────────────────────────────────────────────────┘
 use mathlib.Core.Path.{◌≡◌, refl, sym, ap, ap₂, ◌∙◌, subst}
-use mathlib.Core.Bool.{Bool, true, false, not, ◌||◌}
-use mathlib.Core.List.{List, [], ◌∷◌, ◌++◌, map}
+use mathlib.Core.Bool.{Bool, false, not}
+use mathlib.Core.List.{List, [], ◌∷◌, map}
 use Prim.Native.Nat.{ℕ, suc, ◌≤◌}
 use native.Mathlib.Omega.{arith}
 use borrow.Author.Tests.{le-ltb}
-use lib.Dec.{eqb, ltb}
+use lib.Dec.{eqb}
 use lib.ListN.{length, get_or, take}
 use Rattle.paper.specs.Answer.{Answer, gives, refused}
 use Rattle.laws.specs.Lent.{Lent, Each, none, next, ◌over◌}
@@ -27,13 +27,13 @@ use Rattle.decoding.specs.Found.{Found}
 use Rattle.decoding.specs.Reads.{Reads}
 use Rattle.decoding.proofs.Exactly.{reads_back}
 use Rattle.salvage.specs.Fates.{places_in, Becomes, Fate, Meets, is_altered, is_refusal, is_refused, picked, the_index, its_places, refused_in}
-use Rattle.salvage.specs.Calls.{frames_after, counts_of, any_short, Refusal, by_head, by_room, Salvage, Salvages}
+use Rattle.salvage.specs.Calls.{frames_after, any_short, by_head, by_room, Salvage}
 use Rattle.salvage.specs.Claims.{SecondRun, Untouched}
 use Rattle.salvage.specs.declared.Counts.{Counts}
 use Rattle.salvage.proofs.Told.{told_few}
 use Rattle.salvage.proofs.Clean.{one_fate}
-use Rattle.salvage.proofs.Seen.{Lists, refiled}
-use Rattle.salvage.proofs.Ran.{fates, cleaned, fates_many, after_many, in_refused, holds_after, roomy}
+use Rattle.salvage.proofs.Seen.{refiled}
+use Rattle.salvage.proofs.Ran.{fates, cleaned, after_many, in_refused, holds_after, roomy}
 
 abbrev said_again : Answer Found → Answer Found
 said_again (gives r) = gives (record { «data» = r.«data»; places = []; checks = 0; pad = 0 })

@@ -1,6 +1,6 @@
 -- The claims of specs/Claims.antt on a capture that was salvaged, by the same names in lower case.
-use mathlib.Core.Path.{◌≡◌, refl, sym, ap, ap₂, ◌∙◌, subst}
-use mathlib.Core.Bool.{Bool, true, false, not}
+use mathlib.Core.Path.{◌≡◌, refl, sym, ap, ◌∙◌, subst}
+use mathlib.Core.Bool.{true, false, not}
 use mathlib.Core.Logic.{◌⊎◌, inl, inr}
 use Prim.Native.Nat.{ℕ, ◌/◌, ◌%◌, ◌^◌, ◌<◌, ◌≤◌}
 use native.Mathlib.Decide.{ℕ_discrete}
@@ -11,7 +11,6 @@ use lib.Bits.{bit_xor, xor_shr, xor_self, xor_zero_r}
 use lib.Dec.{eqb, lit<}
 use lib.ListN.{length, get_or}
 use Rattle.paper.specs.Answer.{Answer, gives, refused}
-use Rattle.paper.proofs.Answer.{never_both}
 use Rattle.laws.specs.Bits.{bit, unlike}
 use Rattle.laws.specs.Lent.{Lent}
 use Rattle.laws.proofs.Truth.{is_true}
@@ -20,13 +19,13 @@ use Rattle.frame.specs.Word.{sixteen, data_of, FrameOf}
 use Rattle.decoding.specs.Found.{Found}
 use Rattle.decoding.specs.Reads.{Reads}
 use Rattle.decoding.proofs.Demands.{one_answer}
-use Rattle.salvage.specs.Fates.{Fate, places_in, is_altered, is_refusal, is_refused, the_index, its_places, Becomes}
+use Rattle.salvage.specs.Fates.{places_in, is_altered, is_refusal, is_refused, the_index, its_places, Becomes}
 use Rattle.salvage.specs.Calls.{Salvages}
 use Rattle.salvage.specs.declared.Counts.{Counts}
-use Rattle.salvage.specs.Claims.{frame_in, Among, CountsFit, IndicesRise, OnlyAltered, ExactPlaces, OnlyRefusedTold, LawfulOrTold, AsMade, RestStays}
+use Rattle.salvage.specs.Claims.{frame_in, Among, CountsFit, IndicesRise, OnlyAltered, ExactPlaces, OnlyRefusedTold, LawfulOrTold, AsMade, RestStays, BehindStays}
 use Rattle.salvage.proofs.Entries.{nobody, told_entry, apart_few}
 use Rattle.salvage.proofs.Seen.{lists_fit, entry_at, among_passes, passes_among, lists_rise}
-use Rattle.salvage.proofs.Ran.{fates, fates_many, after_many, in_altered, in_places, in_refused, holds_after, cleaned}
+use Rattle.salvage.proofs.Ran.{fates, fates_many, after_many, in_altered, in_places, in_refused, holds_after, past_frames, cleaned}
 use Rattle.salvage.proofs.Ran.{answer_at, small_at, reads_at, becomes_at, altered_there}
 
 -- two frames that differ by p are the same exactly where p is 0
@@ -146,3 +145,6 @@ as_made c F A P R k s i h r t =
 
 pub rest_stays : RestStays
 rest_stays c F A P R k s = ((cleaned s).frames, after_many s, holds_after s)
+
+pub behind_stays : BehindStays
+behind_stays c F A P R k s = past_frames s

@@ -10,18 +10,17 @@
 -- └───────────────┴────────────────────────────────────────────────────────────────┘
 use mathlib.Core.Path.{◌≡◌, refl, sym, ap, ap₂, ◌∙◌, subst}
 use mathlib.Core.List.{List, [], ◌∷◌}
-use Prim.Native.Nat.{ℕ, suc, ◌+◌, ◌-◌, ◌*◌, ◌/◌, ◌%◌, ◌^◌, ◌<◌, ◌≤◌}
-use native.Mathlib.Nat.{zero-lt-suc, div-one, div-add-mod', mod-eq_of_lt, pow-suc, zero-mul, add-zero, zero-add}
+use Prim.Native.Nat.{ℕ, suc, ◌+◌, ◌-◌, ◌*◌, ◌%◌, ◌^◌, ◌<◌}
+use native.Mathlib.Nat.{zero-lt-suc, div-one, div-add-mod', mod-eq_of_lt, pow-suc, add-zero, zero-add}
 use native.Mathlib.Omega.{arith}
-use lib.Bits.{bit_xor, differ, xor_zero_l, xor_zero_r, xor_comm, xor_lt}
+use lib.Bits.{bit_xor, differ, xor_zero_r, xor_comm, xor_lt}
 use lib.Dec.{eqb}
-use lib.ListN.{get_or}
 use Rattle.paper.specs.Answer.{Answer, gives, refused}
 use Rattle.laws.proofs.Xor.{two_bits, bit-lt, xor_digit, xor_cancel}
-use Rattle.bch.specs.Code.{position, differences}
+use Rattle.bch.specs.Code.{differences}
 use Rattle.bch.proofs.Nearest.{code_lt}
 use Rattle.bch.proofs.Ones.{ups, differ_ups, sum_of, rebuild, Rising, ups_rising}
-use Rattle.frame.specs.Word.{word_of, pad_of, padded, opposite, data_of, FrameOf}
+use Rattle.frame.specs.Word.{word_of, pad_of, padded, FrameOf}
 use Rattle.frame.proofs.Frames.{framed, one_frame}
 use Rattle.tables.specs.Tables.{MendTable, ByteSums}
 use Rattle.decoding.specs.Found.{Found, flag}

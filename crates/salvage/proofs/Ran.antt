@@ -4,6 +4,7 @@
 -- │ met           │ each frame has met its own                                     │
 -- │ in_altered …  │ the three lists                                                │
 -- │ holds_after   │ the capture after                                              │
+-- │ past_frames   │ the bytes behind the frames are as they were                   │
 -- │ before_at,    │ its frames before and after                                    │
 -- │ after_at      │                                                                │
 -- │ answer_at     │ the answer to a frame                                          │
@@ -12,21 +13,21 @@
 -- │ altered_there │ a frame after is the one before, altered at its places         │
 -- └───────────────┴────────────────────────────────────────────────────────────────┘
 use mathlib.Core.Path.{◌≡◌, refl, sym, ap, ◌∙◌, subst}
-use mathlib.Core.Bool.{Bool, true, false, ◌||◌}
+use mathlib.Core.Bool.{◌||◌}
 use mathlib.Core.List.{List, [], ◌∷◌}
-use Prim.Native.Nat.{ℕ, zero, suc, ◌^◌, ◌<◌, ◌≤◌}
-use native.Mathlib.Nat.{zero-lt-suc}
+use Prim.Native.Nat.{ℕ, zero, suc, ◌*◌, ◌^◌, ◌<◌, ◌≤◌}
 use native.Mathlib.Omega.{arith}
 use borrow.Author.Tests.{ltb-false}
 use lib.Bits.{bit_xor}
 use lib.Dec.{ltb}
-use lib.ListN.{length, get_or, length-map}
+use lib.ListN.{length, get_or, drop, length-map}
 use Rattle.paper.specs.Answer.{Answer}
 use Rattle.laws.specs.Lent.{Lent, Each, none, next, ◌over◌}
 use Rattle.laws.proofs.Truth.{neither}
 use Rattle.laws.proofs.Writing.{over_length, each_length}
 use Rattle.radix.specs.Octets.{bytes_of}
-use Rattle.filing.specs.File.{Capture, kept, contents, file_of, Holds}
+use Rattle.radix.proofs.Stored.{length_bytes}
+use Rattle.filing.specs.File.{Capture, kept, contents, Holds}
 use Rattle.filing.proofs.Captures.{contents_size}
 use Rattle.decoding.specs.Found.{Found}
 use Rattle.decoding.specs.Reads.{Reads}
@@ -48,6 +49,12 @@ after_of : (ys : List Fate) (i : ℕ) → i < length ys → get_or (frames_after
 after_of [] i h = absurd (omega (arith, h))
 after_of (y ∷ ys) zero h = refl
 after_of (y ∷ ys) (suc i) h = after_of ys i (omega (arith, h))
+
+past : (ys out : List ℕ) → drop (length ys) (ys over out) ≡ drop (length ys) out
+unfolding ◌over◌
+past ys [] = refl
+past [] (o ∷ out) = refl
+past (y ∷ ys) (o ∷ out) = past ys out
 
 module _ {c : Capture} {F A P R : Lent} {k : Counts} (s : Salvage c F A P R k) where
   abbrev pub fates : List Fate
@@ -112,6 +119,13 @@ module _ {c : Capture} {F A P R : Lent} {k : Counts} (s : Salvage c F A P R k) w
     where
       same : length (contents c) ≡ length (contents (kept c.lane (frames_after fates) c.notes))
       same = omega (arith, contents_size c, contents_size (kept c.lane (frames_after fates) c.notes), after_many)
+
+  pub past_frames : drop (length c.frames * 8) F.is ≡ drop (length c.frames * 8) F.was
+  past_frames =
+      ap (drop (length c.frames * 8)) s.leaves.shows.file
+      ∙ subst (λ (n : ℕ). drop n (bytes_of (frames_after fates) over F.was) ≡ drop n F.was)
+      (length_bytes (frames_after fates) ∙ ap (λ (n : ℕ). n * 8) after_many)
+      (past (bytes_of (frames_after fates)) F.was)
 
   module _ (i : ℕ) (h : i < length c.frames) where
     pub before_at : frame_in F.was i ≡ get_or c.frames i 0

@@ -10,29 +10,22 @@
 -- │ fates_many …  │ of a salvaged capture: as many fates as frames, each met; room │
 -- │               │ in each list; the capture after, and its frames                │
 -- └───────────────┴────────────────────────────────────────────────────────────────┘
-use mathlib.Core.Path.{◌≡◌, refl, sym, ap, ap₂, ◌∙◌, subst}
-use mathlib.Core.Bool.{Bool, true, false, ◌||◌}
-use mathlib.Core.List.{List, [], ◌∷◌, ◌++◌, append_assoc, map}
-use Prim.Native.Nat.{ℕ, zero, suc, ◌+◌, ◌*◌, ◌^◌, ◌<◌, ◌≤◌}
-use native.Mathlib.Nat.{zero-add, not-suc-le-zero, le_of_suc-le-suc, zero-lt-suc}
+use mathlib.Core.Path.{◌≡◌, sym, ap, ap₂, ◌∙◌, subst}
+use mathlib.Core.Bool.{Bool, true}
+use mathlib.Core.List.{List, ◌++◌, append_assoc}
+use Prim.Native.Nat.{ℕ, zero, suc, ◌+◌, ◌<◌, ◌≤◌}
+use native.Mathlib.Nat.{zero-add, not-suc-le-zero, le_of_suc-le-suc}
 use native.Mathlib.Omega.{arith}
-use borrow.Author.Tests.{ltb-false}
-use lib.Bits.{xor_lt}
-use lib.Dec.{ltb}
-use lib.ListN.{length, get_or, drop, length-map, length-append, get_or-append}
+use lib.ListN.{length, get_or, drop, length-append, get_or-append}
 use lib.Seq.{get_or-take, drop_at}
-use Rattle.paper.specs.Answer.{gives}
-use Rattle.laws.specs.Lent.{Lent, Each, none, next, ◌over◌}
-use Rattle.laws.proofs.Truth.{neither}
-use Rattle.laws.proofs.Writing.{over_fits, over_length, each_length}
+use Rattle.laws.specs.Lent.{Each, none, next, ◌over◌}
+use Rattle.laws.proofs.Writing.{over_fits, over_length}
 use Rattle.radix.specs.Octets.{numbers_of, bytes_of}
 use Rattle.radix.proofs.Stored.{length_bytes}
-use Rattle.filing.specs.File.{Capture, kept, contents, file_of, trailer, Writable, Holds}
-use Rattle.filing.proofs.Captures.{contents_size, frames_in_lem}
-use Rattle.salvage.specs.Fates.{Fate, Meets, picked, the_index}
-use Rattle.salvage.specs.Calls.{frames_after, Salvage}
+use Rattle.filing.specs.File.{Capture, kept, contents, file_of, trailer, Holds}
+use Rattle.filing.proofs.Captures.{frames_in_lem}
+use Rattle.salvage.specs.Fates.{Fate, picked, the_index}
 use Rattle.salvage.specs.Claims.{frame_in, Among, Rises}
-use Rattle.salvage.specs.declared.Counts.{Counts}
 use Rattle.salvage.proofs.Told.{told_few}
 use Rattle.salvage.proofs.Entries.{nobody, told_entry, told_has, told_rises}
 

@@ -15,11 +15,12 @@
 -- │                 │ the third list                                                 │
 -- │ AsMade          │ each readable frame becomes what the maker makes of its data   │
 -- │ RestStays       │ lane, notes and the number of frames read back the same        │
+-- │ BehindStays     │ and every byte behind the frames is as it was                  │
 -- │ Untouched L     │ a list is as it was                                            │
 -- │ SecondRun       │ a second run, over lists that are as long, alters nothing and  │
 -- │                 │ refuses the same                                               │
 -- └─────────────────┴────────────────────────────────────────────────────────────────┘
-use Rattle.std.specs.Prelude.{◌≡◌, List, ◌⊎◌, ℕ, suc, ◌+◌, ◌<◌, ◌≤◌, length, get_or, take}
+use Rattle.std.specs.Prelude.{◌≡◌, List, ◌⊎◌, ℕ, suc, ◌+◌, ◌*◌, ◌<◌, ◌≤◌, length, get_or, take, drop}
 use Rattle.paper.specs.Answer.{Answer, gives, refused}
 use Rattle.laws.specs.Bits.{bit, unlike}
 use Rattle.laws.specs.Lent.{Lent}
@@ -88,6 +89,10 @@ abbrev pub RestStays : Type 0
 RestStays =
     (c : Capture) (F A P R : Lent) (k : Counts) → Salvage c F A P R k
     → (fs : List ℕ) × (length fs ≡ length c.frames) × Holds F.is (kept c.lane fs c.notes)
+
+abbrev pub BehindStays : Type 0
+BehindStays =
+    (c : Capture) (F A P R : Lent) (k : Counts) → Salvage c F A P R k → drop (length c.frames * 8) F.is ≡ drop (length c.frames * 8) F.was
 
 abbrev pub Untouched : Lent → Type 0
 Untouched L = L.is ≡ L.was

@@ -1,5 +1,6 @@
 // Salvage of a capture: each readable frame becomes its clean frame, and three lists tell what was altered, where, and what is refused.
 #![tactic(auto)]
+
 ghost use Rattle.std.specs.Prelude.{◌≡◌, ◌/◌, ◌≤◌, length};
 ghost use Rattle.laws.specs.Lent.{◌to◌, lent};
 ghost use Rattle.salvage.specs.Calls.{answer, Salvages};

@@ -1,5 +1,6 @@
 // The constant tables of the reader. Whoever reads many frames takes each once and lends it on: each call writes its table anew.
 #![tactic(auto)]
+
 ghost use Rattle.tables.specs.Tables.{MendTable, ByteSums};
 
 mod bytes;

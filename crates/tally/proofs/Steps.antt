@@ -7,6 +7,7 @@
 -- │                 │ the count h that sums g                                      │
 -- │ from_none       │ and from fresh is that count                                 │
 -- │ step_frames     │ a verdict is one frame                                       │
+-- │ checks_on       │ so the total grows by the check flips that are told          │
 -- │ step_spare      │ and keeps the room for those that follow                     │
 -- │ in_pieces …     │ the statements of specs/Claims.antt by these names           │
 -- └─────────────────┴──────────────────────────────────────────────────────────────┘
@@ -74,6 +75,10 @@ module _ (f : Tally → ℕ) (g : Told → ℕ) (by : (t : Tally) (x : Told) →
 
   from_none : f fresh ≡ 0 → (xs : List Told) → f (after fresh xs) ≡ h xs
   from_none z xs = omega (arith, total fresh xs)
+
+pub checks_on : (t : Tally) (xs : List Told) → (after t xs).check_flips ≡ t.check_flips + all_checks xs
+unfolding step all_checks
+checks_on = total (λ t. t.check_flips) (λ x. x.checks) (λ t x. refl) all_checks refl (λ x ys. refl)
 
 pub from_fresh : FromFresh
 unfolding step often wrong_pads all_checks

@@ -12,9 +12,14 @@
 -- │ OneAnswer      │ no second answer fits the promise of a call                    │
 -- │ SomeAnswer     │ and one does                                                   │
 -- │ OneSum         │ no second answer fits the promise of `frames`                  │
+-- │ SomeLongest    │ in any list some unbroken part of refused verdicts is as long  │
+-- │                │ as its longest stretch                                         │
+-- │ NoneLonger     │ and none is longer                                             │
+-- │ SomeCurrent    │ some such part at its end is as long as its current stretch    │
+-- │ NoneAtEnd      │ and none at the end is longer                                  │
 -- │ CountsHistory  │ after any calls from fresh the tally is the counts over the    │
 -- │                │ verdicts accepted                                              │
--- │ SomeUnbroken   │ its longest is the length of some unbroken part of refused     │
+-- │ SomeUnbroken   │ so its longest is the length of some unbroken part of refused  │
 -- │                │ verdicts among these                                           │
 -- │ NoLonger       │ and none is longer                                             │
 -- │ SomeAtEnd      │ its current is the length of such a part at their end          │
@@ -24,10 +29,12 @@
 -- │ InPieces       │ lists added one after the other are their joining              │
 -- │ AddsJoined     │ so lists that are accepted one after the other are accepted    │
 -- │                │ joined, with the same next tally                               │
+-- │ JoinedAdds     │ and lists that are accepted joined, all cut at one place, are  │
+-- │                │ accepted one after the other                                   │
 -- │ LongestJoined  │ the longest stretch of a joining is one of the two lists or    │
 -- │                │ lies across the seam                                           │
--- │ CurrentJoined  │ the current one begins in the second list, or ahead of all of  │
--- │                │ it                                                             │
+-- │ CurrentJoined  │ the current one is the second list's, or, where all of that is │
+-- │                │ refused, goes on from the first's                              │
 -- │ FromFresh      │ what is added to a fresh tally is the counts                   │
 -- │ CountsEach     │ each verdict is one frame of the five counts                   │
 -- │ StaysInRange   │ the next tally is in its range                                 │
@@ -38,6 +45,7 @@ use Rattle.std.specs.Prelude.{◌≡◌, true, false, cond, List, [], ◌∷◌,
 use Rattle.paper.specs.Numbers.{outside}
 use Rattle.paper.specs.Answer.{gives, refused}
 use Rattle.tally.specs.Told.{Told, told}
+use Rattle.tally.specs.Parts.{Alike}
 use Rattle.tally.specs.Ranges.{known, frames_in, in_range}
 use Rattle.tally.specs.Stretches.{all_refused, leading, longest, current, Stretch}
 use Rattle.tally.specs.Counts.{fresh, counts}
@@ -85,6 +93,18 @@ SomeAnswer = (t : Tally) (vs ps cs : List ℕ) → (r : Added) × Adds t vs ps c
 abbrev pub OneSum : Type 0
 OneSum = (t : Tally) (r s : HowMany) → Sums t (how_many r) → Sums t (how_many s) → r ≡ s
 
+abbrev pub SomeLongest : Type 0
+SomeLongest = (xs : List Told) → (ys zs : List Told) × Stretch xs ys zs × (length ys ≡ longest xs)
+
+abbrev pub NoneLonger : Type 0
+NoneLonger = (xs ys zs : List Told) → Stretch xs ys zs → length ys ≤ longest xs
+
+abbrev pub SomeCurrent : Type 0
+SomeCurrent = (xs : List Told) → (ys : List Told) × Stretch xs ys [] × (length ys ≡ current xs)
+
+abbrev pub NoneAtEnd : Type 0
+NoneAtEnd = (xs ys : List Told) → Stretch xs ys [] → length ys ≤ current xs
+
 abbrev pub CountsHistory : Type 0
 CountsHistory = (cs : List Call) (xs : List Told) (u : Tally) → History fresh cs xs u → u ≡ counts xs
 
@@ -123,6 +143,11 @@ abbrev pub AddsJoined : Type 0
 AddsJoined =
     (t u w : Tally) (vs ps cs vs' ps' cs' : List ℕ) → Adds t vs ps cs (gives u) → Adds u vs' ps' cs' (gives w)
     → Adds t (vs ++ vs') (ps ++ ps') (cs ++ cs') (gives w)
+
+abbrev pub JoinedAdds : Type 0
+JoinedAdds =
+    (t w : Tally) (vs ps cs vs' ps' cs' : List ℕ) → Alike vs ps cs → Adds t (vs ++ vs') (ps ++ ps') (cs ++ cs') (gives w)
+    → (u : Tally) × Adds t vs ps cs (gives u) × Adds u vs' ps' cs' (gives w)
 
 abbrev pub LongestJoined : Type 0
 LongestJoined = (xs ys : List Told) → longest (xs ++ ys) ≡ max (longest xs) (max (current xs + leading ys) (longest ys))

@@ -10,7 +10,7 @@
 -- │ refused_count t │ its refused ones                                               │
 -- │ frames_in t     │ all its frames: the sum of the five verdict counts             │
 -- │ flips_in t      │ all its flips: one-flip plus twice two-flip                    │
--- │ inRange t       │ the state t is in its range                                    │
+-- │ in_range t      │ the state t is in its range                                    │
 -- └─────────────────┴────────────────────────────────────────────────────────────────┘
 use Rattle.std.specs.Prelude.{Bool, true, cond, ◌&&◌, ◌||◌, List, [], ◌∷◌, ℕ, ◌+◌, ◌*◌, eqb, leb}
 use Rattle.paper.specs.Numbers.{no_word, run_broken, most_counted}

@@ -1,7 +1,4 @@
 -- `host::lay_out` meets its contract, by `thirteen`.
-use native.Mathlib.Omega.{arith}
-use borrow.Author.Rules.{rules}
-use lib.ListN.{length-set}
 use Rattle.host.proofs.Buffer.{thirteen}
 use Rattle.host.proofs.lay_out.Goals as goal
 

@@ -1,9 +1,5 @@
 -- `lane::count` meets its contract: the answer to the tally's answer to what was seen.
-use mathlib.Core.Path.{refl, sym}
-use mathlib.Core.Logic.{inl}
 use native.Mathlib.Omega.{arith}
-use borrow.Author.Rules.{rules}
-use lib.Seq.{length-take-le}
 use Rattle.lane.proofs.Piece.{counts_answer, stays_in}
 use Rattle.lane.proofs.count.Goals as goal
 

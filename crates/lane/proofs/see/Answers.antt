@@ -1,5 +1,4 @@
 -- `lane::see` meets its contract, by the rules of both tables.
-use borrow.Author.Rules.{rules}
 use Rattle.reader.proofs.ByTables.{shown_of_bytes}
 use Rattle.lane.proofs.see.Goals as goal
 

@@ -1,17 +1,14 @@
 -- `lane::see_by` meets its contract: after i turns the verdicts, flags and check flips of i frames stand at the front, and the next
 -- frame is at hand.
-use mathlib.Core.Path.{◌≡◌, ap}
-use mathlib.Core.List.{List}
-use Prim.Native.Nat.{ℕ, ◌-◌, ◌/◌, ◌≤◌, ◌<◌}
+use mathlib.Core.Path.{ap}
+use Prim.Native.Nat.{◌/◌, ◌≤◌, ◌<◌}
 use native.Mathlib.Omega.{arith}
-use lib.ListN.{length, get_or}
+use lib.ListN.{length}
 use Rattle.radix.specs.Octets.{numbers_of}
 use Rattle.radix.proofs.Joined.{numbers_len}
-use Rattle.reader.specs.Answers.{verdict, pad_in, checks_in}
 use Rattle.reader.specs.ByTables.{read_by}
 use Rattle.reader.specs.declared.sight.Sight.{Sight}
-use Rattle.reader.proofs.Turns.{ShownBy, shown_none, shown_turn, shown_end}
-use Rattle.lane.proofs.see_by.Invariants.{After}
+use Rattle.reader.proofs.Turns.{shown_none, shown_turn, shown_end}
 use Rattle.lane.proofs.see_by.Goals as goal
 
 pub loop-i-init : goal.loop-i-init

@@ -1,16 +1,12 @@
 -- `lane::see_by` meets its contract: after i turns the verdicts, flags and check flips of i frames stand at the front, and the next
 -- frame is at hand.
-use mathlib.Core.Path.{◌≡◌, ap}
+use mathlib.Core.Path.{◌≡◌}
 use mathlib.Core.List.{List}
-use Prim.Native.Nat.{ℕ, ◌-◌, ◌/◌, ◌≤◌, ◌<◌}
-use native.Mathlib.Omega.{arith}
+use Prim.Native.Nat.{ℕ, ◌-◌, ◌/◌, ◌≤◌}
 use lib.ListN.{length, get_or}
 use Rattle.radix.specs.Octets.{numbers_of}
-use Rattle.radix.proofs.Joined.{numbers_len}
 use Rattle.reader.specs.Answers.{verdict, pad_in, checks_in}
-use Rattle.reader.specs.ByTables.{read_by}
-use Rattle.reader.specs.declared.sight.Sight.{Sight}
-use Rattle.reader.proofs.Turns.{ShownBy, shown_none, shown_turn, shown_end}
+use Rattle.reader.proofs.Turns.{ShownBy}
 use Rattle.lane.proofs.see_by.Given as goal
 
 -- the outputs after i frames

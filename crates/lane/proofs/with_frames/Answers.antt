@@ -2,7 +2,6 @@
 use mathlib.Core.Path.{◌≡◌, sym, ap, ◌∙◌}
 use mathlib.Core.Bool.{true}
 use Prim.Native.Nat.{ℕ}
-use borrow.Author.Rules.{rules}
 use Rattle.paper.specs.Answer.{Answer, gives}
 use Rattle.paper.proofs.Answer.{gives_one, never_both}
 use Rattle.tally.specs.Ranges.{frames_in, in_range}

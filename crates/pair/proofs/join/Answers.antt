@@ -1,7 +1,6 @@
 -- `pair::join` meets its contract: the halves, then the bits of each.
 use mathlib.Core.Path.{subst}
 use Prim.Native.Nat.{ℕ}
-use borrow.Author.Rules.{rules}
 use Rattle.pair.specs.Parts.{Moved, spread_from}
 use Rattle.pair.proofs.Lines.{words_joined}
 use Rattle.pair.proofs.join.Goals as goal

@@ -1,6 +1,5 @@
 -- `pair::part` meets its contract: the bits of each word, then the halves.
 use mathlib.Core.Path.{subst, sym}
-use borrow.Author.Rules.{rules}
 use Prim.Native.Nat.{ℕ}
 use Rattle.pairing.specs.Order.{Pair, Interleaved}
 use Rattle.pair.specs.Calls.{pair}

@@ -1,6 +1,5 @@
 -- `accepted_lines` lays its lines one after another.
 use native.Mathlib.Omega.{arith}
-use borrow.Author.Rules.{rules}
 use Rattle.wording.specs.Text.{ascii, line, accepted_lines}
 use Rattle.printout.proofs.Laying.{then}
 use Rattle.printout.proofs.accepted_lines.Goals as goal

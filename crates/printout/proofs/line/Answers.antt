@@ -1,8 +1,7 @@
 -- `line` lays the line end after the name and the digits.
 use native.Mathlib.Omega.{arith}
-use borrow.Author.Rules.{rules}
 use Rattle.wording.specs.Text.{ascii}
-use Rattle.printout.proofs.Laying.{then, inlay_length}
+use Rattle.printout.proofs.Laying.{then}
 use Rattle.printout.proofs.line.Goals as goal
 
 pub returns : goal.returns

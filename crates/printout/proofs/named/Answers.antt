@@ -2,9 +2,8 @@
 use mathlib.Core.Path.{◌∙◌}
 use Prim.Native.Nat.{◌≤◌}
 use native.Mathlib.Omega.{arith}
-use borrow.Author.Rules.{rules}
 use lib.ListN.{length, take}
-use Rattle.printout.proofs.Laying.{then, respelled, inlay_length}
+use Rattle.printout.proofs.Laying.{then, respelled}
 use Rattle.wording.proofs.Digits.{twenty, spelled_least}
 use Rattle.printout.proofs.named.Goals as goal
 

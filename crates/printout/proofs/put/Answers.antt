@@ -1,12 +1,9 @@
 -- `put` lays the piece byte by byte.
-use mathlib.Core.Path.{◌≡◌, refl, ap, ◌∙◌}
+use mathlib.Core.Path.{refl, ap, ◌∙◌}
 use mathlib.Core.List.{List}
-use Prim.Native.Nat.{ℕ, ◌+◌, ◌-◌, ◌≤◌}
+use Prim.Native.Nat.{ℕ, ◌+◌}
 use native.Mathlib.Omega.{arith}
-use borrow.Author.Rules.{rules}
-use lib.ListN.{length, get_or, set, take, length-set}
-use lib.Seq.{take_all}
-use Rattle.printout.specs.Parts.{inlaid}
+use lib.ListN.{get_or, set, length-set}
 use Rattle.printout.proofs.Laying.{inlaid_none, inlaid_more}
 use Rattle.printout.proofs.put.Goals as goal
 

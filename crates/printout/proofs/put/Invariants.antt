@@ -1,13 +1,8 @@
 -- `put` lays the piece byte by byte.
-use mathlib.Core.Path.{◌≡◌, refl, ap, ◌∙◌}
-use mathlib.Core.List.{List}
-use Prim.Native.Nat.{ℕ, ◌+◌, ◌-◌, ◌≤◌}
-use native.Mathlib.Omega.{arith}
-use borrow.Author.Rules.{rules}
-use lib.ListN.{length, get_or, set, take, length-set}
-use lib.Seq.{take_all}
+use mathlib.Core.Path.{◌≡◌}
+use Prim.Native.Nat.{◌-◌, ◌≤◌}
+use lib.ListN.{length, take}
 use Rattle.printout.specs.Parts.{inlaid}
-use Rattle.printout.proofs.Laying.{inlaid_none, inlaid_more}
 use Rattle.printout.proofs.put.Given as goal
 
 abbrev pub invariant-loop-i : goal.invariant-loop-i

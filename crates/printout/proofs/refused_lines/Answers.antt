@@ -1,6 +1,5 @@
 -- `refused_lines` lays its lines one after another.
 use native.Mathlib.Omega.{arith}
-use borrow.Author.Rules.{rules}
 use Rattle.wording.specs.Text.{ascii, line, refused_lines}
 use Rattle.printout.proofs.Laying.{then}
 use Rattle.printout.proofs.refused_lines.Goals as goal

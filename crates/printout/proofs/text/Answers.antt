@@ -1,6 +1,5 @@
 -- `text` lays its lines one after another.
 use native.Mathlib.Omega.{arith}
-use borrow.Author.Rules.{rules}
 use Rattle.wording.specs.Text.{ascii, line, text}
 use Rattle.printout.proofs.Laying.{then, says}
 use Rattle.printout.proofs.text.Goals as goal

@@ -1,7 +1,6 @@
 -- `reader::read` meets its contract: where the remainder is 0 no table is needed.
 use mathlib.Core.Path.{sym, ap, subst, ◌∙◌}
 use Prim.Native.Nat.{ℕ, ◌%◌}
-use borrow.Author.Rules.{rules}
 use Rattle.decoding.specs.Reads.{Reads}
 use Rattle.reader.specs.ByTables.{as_received, said_by}
 use Rattle.reader.proofs.ByTables.{read_received}

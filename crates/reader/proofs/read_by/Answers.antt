@@ -1,6 +1,5 @@
 -- `reader::read_by` meets its contract: mended, then said; a clean frame needs neither.
 use mathlib.Core.Path.{◌∙◌}
-use borrow.Author.Rules.{rules}
 use Rattle.reader.proofs.ByTables.{as_clean, as_mended}
 use Rattle.reader.proofs.read_by.Goals as goal
 

@@ -1,11 +1,6 @@
 -- `salvage::salvage` meets its contract: what `head` refuses, or what is owed of the frames that it counts.
-use mathlib.Core.Path.{◌≡◌, refl, subst}
+use mathlib.Core.Path.{refl}
 use native.Mathlib.Omega.{arith}
-use borrow.Author.Rules.{rules}
-use Rattle.capture.specs.Answers.{answer}
-use Rattle.capture.specs.Calls.{Heads}
-use Rattle.capture.specs.declared.Labelled.{Labelled}
-use Rattle.capture.specs.declared.Labelled.TheVariants.{Found, Refused}
 use Rattle.capture.proofs.Calls.{Opened, opened}
 use Rattle.salvage.specs.Calls.{answer as salvage·answer, by_head}
 use Rattle.salvage.proofs.Opened.{of_capture}

@@ -1,9 +1,6 @@
 -- `host::captures::lks_capture_head` meets its contract: what `head` owes, told.
-use mathlib.Core.Path.{refl}
-use borrow.Author.Rules.{rules}
-use borrow.Author.Tests.{lt-leb, le-leb}
+use borrow.Author.Tests.{le-leb}
 use Rattle.capture.specs.Answers.{answer}
-use Rattle.capture.proofs.Calls.{lent_unfit}
 use Rattle.host.proofs.Labels.{label_told}
 use Rattle.host.proofs.captures.lks_capture_head.Goals as goal
 

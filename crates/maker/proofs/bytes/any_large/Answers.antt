@@ -1,13 +1,11 @@
 -- `maker::bytes::any_large` meets its contract: what is left holds a value too large where the whole does.
-use mathlib.Core.Path.{◌≡◌, refl, sym, subst, ◌∙◌}
+use mathlib.Core.Path.{sym, subst, ◌∙◌}
 use mathlib.Core.List.{List}
-use Prim.Native.Nat.{ℕ, ◌-◌, ◌/◌, ◌^◌, ◌≤◌, ◌<◌}
+use Prim.Native.Nat.{ℕ, ◌/◌, ◌^◌, ◌≤◌, ◌<◌}
 use native.Mathlib.Omega.{arith}
-use borrow.Author.Rules.{rules}
-use lib.ListN.{length, drop}
+use lib.ListN.{length}
 use Rattle.radix.specs.Octets.{numbers_of}
 use Rattle.radix.proofs.Joined.{numbers_len}
-use Rattle.maker.specs.Lists.{any_too_large}
 use Rattle.maker.proofs.Scan.{large_here, large_further, large_nowhere}
 use Rattle.maker.proofs.bytes.any_large.Goals as goal
 

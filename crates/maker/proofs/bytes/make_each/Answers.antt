@@ -1,8 +1,7 @@
 -- `maker::bytes::make_each` meets its contract: after i turns the bytes of i frames stand at the front.
 use mathlib.Core.Path.{refl, sym, subst}
-use Prim.Native.Nat.{ℕ, ◌+◌, ◌-◌, ◌/◌, ◌^◌, ◌≤◌, ◌<◌}
+use Prim.Native.Nat.{ℕ, ◌+◌, ◌/◌, ◌^◌, ◌<◌}
 use native.Mathlib.Omega.{arith}
-use borrow.Author.Rules.{rules}
 use lib.ListN.{length}
 use Rattle.radix.specs.Octets.{numbers_of, bytes_of}
 use Rattle.radix.proofs.Joined.{numbers_len}

@@ -1,14 +1,8 @@
 -- `maker::bytes::make_each` meets its contract: after i turns the bytes of i frames stand at the front.
-use mathlib.Core.Path.{refl, sym, subst}
-use Prim.Native.Nat.{ℕ, ◌+◌, ◌-◌, ◌/◌, ◌^◌, ◌≤◌, ◌<◌}
-use native.Mathlib.Omega.{arith}
-use borrow.Author.Rules.{rules}
+use Prim.Native.Nat.{◌-◌, ◌/◌, ◌≤◌}
 use lib.ListN.{length}
 use Rattle.radix.specs.Octets.{numbers_of, bytes_of}
-use Rattle.radix.proofs.Joined.{numbers_len}
-use Rattle.frame.specs.Word.{FrameOf}
-use Rattle.maker.proofs.Turns.{MadeBy, made_none, bytes_turn, made_end}
-use Rattle.maker.proofs.Scan.{none_large}
+use Rattle.maker.proofs.Turns.{MadeBy}
 use Rattle.maker.proofs.bytes.make_each.Given as goal
 
 abbrev pub invariant-loop-i : goal.invariant-loop-i

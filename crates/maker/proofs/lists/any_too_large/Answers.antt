@@ -1,10 +1,6 @@
 -- `maker::lists::any_too_large` meets its contract: what is left holds a value too large where the whole does.
-use mathlib.Core.Path.{◌≡◌, refl, sym, ◌∙◌}
-use Prim.Native.Nat.{◌-◌, ◌≤◌}
+use mathlib.Core.Path.{sym, ◌∙◌}
 use native.Mathlib.Omega.{arith}
-use borrow.Author.Rules.{rules}
-use lib.ListN.{length, drop}
-use Rattle.maker.specs.Lists.{any_too_large}
 use Rattle.maker.proofs.Scan.{large_here, large_further, large_nowhere}
 use Rattle.maker.proofs.lists.any_too_large.Goals as goal
 
@@ -14,9 +10,9 @@ returns-then-data-i-ge-DATA_END c =
 
 pub loop-i-preserved : goal.loop-i-preserved
 loop-i-preserved c = (
-      omega arith,
-      sym (large_further c.args.«data».now c.loop-i.i c.loop-i-test.true c.if-data-i-ge-DATA_END.false) ∙ c.loop-i.invariant.1,
-    )
+  omega arith,
+  sym (large_further c.args.«data».now c.loop-i.i c.loop-i-test.true c.if-data-i-ge-DATA_END.false) ∙ c.loop-i.invariant.1,
+)
 
 pub returns : goal.returns
 returns c =

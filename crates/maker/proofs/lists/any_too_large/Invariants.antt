@@ -1,11 +1,8 @@
 -- `maker::lists::any_too_large` meets its contract: what is left holds a value too large where the whole does.
-use mathlib.Core.Path.{◌≡◌, refl, sym, ◌∙◌}
+use mathlib.Core.Path.{◌≡◌}
 use Prim.Native.Nat.{◌-◌, ◌≤◌}
-use native.Mathlib.Omega.{arith}
-use borrow.Author.Rules.{rules}
 use lib.ListN.{length, drop}
 use Rattle.maker.specs.Lists.{any_too_large}
-use Rattle.maker.proofs.Scan.{large_here, large_further, large_nowhere}
 use Rattle.maker.proofs.lists.any_too_large.Given as goal
 
 abbrev pub invariant-loop-i : goal.invariant-loop-i

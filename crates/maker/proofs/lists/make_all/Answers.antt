@@ -1,10 +1,7 @@
 -- `maker::lists::make_all` meets its contract: after i turns the first i places are written.
 use mathlib.Core.Path.{refl}
-use Prim.Native.Nat.{◌-◌, ◌≤◌}
 use native.Mathlib.Omega.{arith}
-use borrow.Author.Rules.{rules}
-use lib.ListN.{length}
-use Rattle.maker.proofs.Turns.{MadeBy, made_none, made_turn, made_end}
+use Rattle.maker.proofs.Turns.{made_none, made_turn}
 use Rattle.maker.proofs.Scan.{none_large}
 use Rattle.maker.proofs.lists.make_all.Goals as goal
 

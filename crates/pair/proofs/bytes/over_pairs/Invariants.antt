@@ -1,14 +1,9 @@
 -- `pair::bytes::over_pairs` meets its contract: after k turns the bytes of the first k pairs are written.
-use mathlib.Core.Path.{refl, subst}
-use Prim.Native.Nat.{ℕ, ◌-◌, ◌/◌, ◌≤◌, ◌<◌}
-use native.Mathlib.Omega.{arith}
+use Prim.Native.Nat.{◌-◌, ◌/◌, ◌≤◌}
 use lib.ListN.{length}
 use Rattle.radix.specs.Octets.{numbers_of, bytes_of}
-use Rattle.radix.proofs.Joined.{numbers_len}
-use Rattle.pairing.specs.Order.{Pair}
-use Rattle.pair.specs.Calls.{pair, as_pair}
 use Rattle.pair.specs.Parts.{Converted}
-use Rattle.pair.proofs.Turns.{After, before_first, bytes_turn, at_end}
+use Rattle.pair.proofs.Turns.{After}
 use Rattle.pair.proofs.bytes.over_pairs.Given as goal
 
 abbrev pub invariant-loop-k : goal.invariant-loop-k

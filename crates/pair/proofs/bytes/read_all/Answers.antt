@@ -1,7 +1,6 @@
 -- `pair::bytes::read_all` meets its contract: the frames, then their answers in their place.
 use native.Mathlib.Omega.{arith}
 use Prim.Native.Nat.{◌/◌}
-use borrow.Author.Rules.{rules}
 use lib.ListN.{length}
 use Rattle.radix.specs.Octets.{numbers_of}
 use Rattle.radix.proofs.Joined.{numbers_len}

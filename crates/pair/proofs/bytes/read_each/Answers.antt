@@ -1,15 +1,13 @@
 -- `pair::bytes::read_each` meets its contract: after i turns the first i frames are read where they stood.
 use mathlib.Core.Path.{sym, ap, ◌∙◌, subst}
-use mathlib.Core.List.{List}
-use Prim.Native.Nat.{ℕ, ◌+◌, ◌-◌, ◌<◌, ◌≤◌}
+use Prim.Native.Nat.{◌+◌, ◌<◌}
 use native.Mathlib.Omega.{arith}
 use lib.ListN.{length, take}
 use Rattle.radix.specs.Octets.{numbers_of}
-use Rattle.reader.specs.Answers.{verdict, data_in}
+use Rattle.reader.specs.Answers.{data_in}
 use Rattle.reader.specs.ByTables.{read_by}
-use Rattle.reader.proofs.Turns.{ShownBy, BytesBy, shown_none, bytes_none, shown_turn, bytes_turn, shown_end, bytes_end}
+use Rattle.reader.proofs.Turns.{BytesBy, shown_none, bytes_none, shown_turn, bytes_turn}
 use Rattle.pair.proofs.InPlace.{frames_there, next_bytes}
-use Rattle.pair.proofs.bytes.read_each.Invariants.{Read}
 use Rattle.pair.proofs.bytes.read_each.Goals as goal
 
 pub loop-i-init : goal.loop-i-init

@@ -1,14 +1,10 @@
 -- `pair::bytes::read_each` meets its contract: after i turns the first i frames are read where they stood.
-use mathlib.Core.Path.{sym, ap, ◌∙◌, subst}
 use mathlib.Core.List.{List}
-use Prim.Native.Nat.{ℕ, ◌+◌, ◌-◌, ◌<◌, ◌≤◌}
-use native.Mathlib.Omega.{arith}
-use lib.ListN.{length, take}
+use Prim.Native.Nat.{ℕ, ◌-◌, ◌≤◌}
+use lib.ListN.{take}
 use Rattle.radix.specs.Octets.{numbers_of}
 use Rattle.reader.specs.Answers.{verdict, data_in}
-use Rattle.reader.specs.ByTables.{read_by}
-use Rattle.reader.proofs.Turns.{ShownBy, BytesBy, shown_none, bytes_none, shown_turn, bytes_turn, shown_end, bytes_end}
-use Rattle.pair.proofs.InPlace.{frames_there, next_bytes}
+use Rattle.reader.proofs.Turns.{ShownBy, BytesBy}
 use Rattle.pair.proofs.bytes.read_each.Given as goal
 
 pub record Read (c b : List ℕ) (n : ℕ) (fs₀ vs₀ fs vs : List ℕ) (i : ℕ) : Type 0 where

@@ -1,10 +1,9 @@
 -- `pair::lists::over_pairs` meets its contract: after k turns the first k pairs are written.
 use mathlib.Core.Path.{refl}
-use Prim.Native.Nat.{◌-◌, ◌/◌, ◌<◌, ◌≤◌}
+use Prim.Native.Nat.{◌/◌, ◌<◌}
 use native.Mathlib.Omega.{arith}
 use lib.ListN.{length}
-use Rattle.pair.specs.Parts.{Converted}
-use Rattle.pair.proofs.Turns.{After, before_first, list_turn, at_end}
+use Rattle.pair.proofs.Turns.{before_first, list_turn, at_end}
 use Rattle.pair.proofs.lists.over_pairs.Goals as goal
 
 pub loop-k-init : goal.loop-k-init

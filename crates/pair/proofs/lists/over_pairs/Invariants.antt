@@ -1,10 +1,8 @@
 -- `pair::lists::over_pairs` meets its contract: after k turns the first k pairs are written.
-use mathlib.Core.Path.{refl}
-use Prim.Native.Nat.{◌-◌, ◌/◌, ◌<◌, ◌≤◌}
-use native.Mathlib.Omega.{arith}
+use Prim.Native.Nat.{◌-◌, ◌/◌, ◌≤◌}
 use lib.ListN.{length}
 use Rattle.pair.specs.Parts.{Converted}
-use Rattle.pair.proofs.Turns.{After, before_first, list_turn, at_end}
+use Rattle.pair.proofs.Turns.{After}
 use Rattle.pair.proofs.lists.over_pairs.Given as goal
 
 abbrev pub invariant-loop-k : goal.invariant-loop-k

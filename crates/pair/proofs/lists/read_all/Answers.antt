@@ -1,6 +1,5 @@
 -- `pair::lists::read_all` meets its contract: the frames, then their answers in their place.
 use mathlib.Core.Path.{refl}
-use borrow.Author.Rules.{rules}
 use Rattle.pair.proofs.InPlace.{pass_list}
 use Rattle.pair.proofs.lists.read_all.Goals as goal
 

@@ -1,15 +1,12 @@
 -- `pair::lists::read_each` meets its contract: after i turns the first i frames are read where they stood.
 use mathlib.Core.Path.{ap, ◌∙◌}
-use mathlib.Core.List.{List}
-use Prim.Native.Nat.{ℕ, ◌-◌, ◌<◌, ◌≤◌}
+use Prim.Native.Nat.{◌<◌}
 use native.Mathlib.Omega.{arith}
 use lib.ListN.{length, take}
 use lib.Seq.{length-take-le}
-use Rattle.reader.specs.Answers.{verdict, data_in}
 use Rattle.reader.specs.ByTables.{read_by}
-use Rattle.reader.proofs.Turns.{ShownBy, shown_none, shown_turn, shown_end}
+use Rattle.reader.proofs.Turns.{shown_none, shown_turn}
 use Rattle.pair.proofs.InPlace.{next_number}
-use Rattle.pair.proofs.lists.read_each.Invariants.{Read}
 use Rattle.pair.proofs.lists.read_each.Goals as goal
 
 pub loop-i-init : goal.loop-i-init

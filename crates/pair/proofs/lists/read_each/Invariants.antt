@@ -1,14 +1,9 @@
 -- `pair::lists::read_each` meets its contract: after i turns the first i frames are read where they stood.
-use mathlib.Core.Path.{ap, ◌∙◌}
 use mathlib.Core.List.{List}
-use Prim.Native.Nat.{ℕ, ◌-◌, ◌<◌, ◌≤◌}
-use native.Mathlib.Omega.{arith}
-use lib.ListN.{length, take}
-use lib.Seq.{length-take-le}
+use Prim.Native.Nat.{ℕ, ◌-◌, ◌≤◌}
+use lib.ListN.{take}
 use Rattle.reader.specs.Answers.{verdict, data_in}
-use Rattle.reader.specs.ByTables.{read_by}
-use Rattle.reader.proofs.Turns.{ShownBy, shown_none, shown_turn, shown_end}
-use Rattle.pair.proofs.InPlace.{next_number}
+use Rattle.reader.proofs.Turns.{ShownBy}
 use Rattle.pair.proofs.lists.read_each.Given as goal
 
 pub record Read (c b : List ℕ) (n : ℕ) (fs₀ vs₀ fs vs : List ℕ) (i : ℕ) : Type 0 where

@@ -1,4 +1,4 @@
--- The shift loses nothing, and what is left is the law `fed-filling-by`.
+-- The shift loses nothing, and what is left is the law `fed_entering_by`.
 use mathlib.Core.Path.{sym, ap, ◌∙◌}
 use Prim.Native.Nat.{ℕ, ◌+◌}
 use native.Mathlib.Omega.{arith}

@@ -1,6 +1,5 @@
 -- `account_head` lays its lines one after another.
 use native.Mathlib.Omega.{arith}
-use borrow.Author.Rules.{rules}
 use Rattle.wording.specs.Text.{ascii, line}
 use Rattle.wording.specs.Account.{account_head}
 use Rattle.printout.proofs.Laying.{then, prints}

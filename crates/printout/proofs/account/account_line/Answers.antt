@@ -1,7 +1,6 @@
 -- `account_line` prints what is told next, and counts it.
 use native.Mathlib.Omega.{arith}
-use borrow.Author.Rules.{rules}
-use Rattle.printout.proofs.Telling.{can_count, tells}
+use Rattle.printout.proofs.Telling.{can_count}
 use Rattle.printout.proofs.account.account_line.Goals as goal
 
 pub past-requires : goal.past-requires

@@ -1,7 +1,6 @@
 -- `altered_line` lays the name, the index, the digits of the places and the line end one after another.
 use mathlib.Core.List.{[]}
 use native.Mathlib.Omega.{arith}
-use borrow.Author.Rules.{rules}
 use Rattle.wording.specs.Text.{ascii}
 use Rattle.wording.specs.Account.{altered_line}
 use Rattle.wording.proofs.Hex.{hex_length}

@@ -1,12 +1,11 @@
 -- `hex_digits` puts the last digit of what is left before those that stand.
-use mathlib.Core.Path.{◌≡◌, refl, sym, ap, ◌∙◌}
-use mathlib.Core.List.{List, [], ◌∷◌, ◌++◌, append_assoc, append-nil}
-use Prim.Native.Nat.{ℕ, suc, ◌-◌, ◌/◌, ◌%◌, ◌<◌, ◌≤◌}
+use mathlib.Core.Path.{◌≡◌, sym, ap, ◌∙◌}
+use mathlib.Core.List.{List, [], ◌∷◌, ◌++◌, append_assoc}
+use Prim.Native.Nat.{ℕ, suc, ◌-◌, ◌/◌, ◌%◌, ◌<◌}
 use native.Mathlib.Omega.{arith}
-use borrow.Author.Rules.{rules}
 use lib.ListN.{length, take, drop, set, length-set}
 use lib.Seq.{set_split, drop_at, length-take-le}
-use Rattle.wording.specs.Account.{hex_digit, hex_spelled, hex16}
+use Rattle.wording.specs.Account.{hex_digit, hex_spelled}
 use Rattle.printout.proofs.account.hex_digits.Goals as goal
 
 -- one digit more, stored before those that stand

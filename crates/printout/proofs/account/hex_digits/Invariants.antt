@@ -1,12 +1,9 @@
 -- `hex_digits` puts the last digit of what is left before those that stand.
-use mathlib.Core.Path.{◌≡◌, refl, sym, ap, ◌∙◌}
-use mathlib.Core.List.{List, [], ◌∷◌, ◌++◌, append_assoc, append-nil}
-use Prim.Native.Nat.{ℕ, suc, ◌-◌, ◌/◌, ◌%◌, ◌<◌, ◌≤◌}
-use native.Mathlib.Omega.{arith}
-use borrow.Author.Rules.{rules}
-use lib.ListN.{length, take, drop, set, length-set}
-use lib.Seq.{set_split, drop_at, length-take-le}
-use Rattle.wording.specs.Account.{hex_digit, hex_spelled, hex16}
+use mathlib.Core.Path.{◌≡◌}
+use mathlib.Core.List.{◌++◌}
+use Prim.Native.Nat.{◌≤◌}
+use lib.ListN.{length, drop}
+use Rattle.wording.specs.Account.{hex_spelled, hex16}
 use Rattle.printout.proofs.account.hex_digits.Given as goal
 
 abbrev pub invariant-loop-i : goal.invariant-loop-i

@@ -1,6 +1,5 @@
 -- `lower_of` tells the lower of two frames.
 use Prim.Native.Nat.{ℕ}
-use borrow.Author.Rules.{rules}
 use borrow.Author.Tests.{le-leb, lt-leb}
 use lib.ListN.{drop_of_length-le}
 use lib.Seq.{drop-cons}

@@ -1,6 +1,5 @@
 -- `next_refused` tells the refused frame at its place.
 use Prim.Native.Nat.{ℕ}
-use borrow.Author.Rules.{rules}
 use Rattle.wording.specs.Account.{next_notice}
 use lib.ListN.{drop_of_length-le}
 use lib.Seq.{drop-cons}

@@ -3,7 +3,6 @@ use mathlib.Core.Path.{◌≡◌, refl, sym, subst}
 use mathlib.Core.List.{List, []}
 use Prim.Native.Nat.{ℕ}
 use native.Mathlib.Omega.{arith}
-use borrow.Author.Rules.{rules}
 use Rattle.laws.proofs.Writing.{over_none}
 use Rattle.wording.specs.declared.Notice.{Notice}
 use Rattle.wording.specs.Text.{ascii, line}

@@ -1,5 +1,4 @@
 -- `reader::bytes::read_all` meets its contract, by the rules of both tables.
-use borrow.Author.Rules.{rules}
 use Rattle.reader.proofs.ByTables.{shown_of_bytes}
 use Rattle.reader.proofs.bytes.read_all.Goals as goal
 

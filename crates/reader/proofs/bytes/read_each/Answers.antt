@@ -1,18 +1,16 @@
 -- `reader::bytes::read_each` meets its contract: after i turns the bytes of i data words and i verdicts stand at the front, and the
 -- next frame is at hand.
 -- the outputs after i frames
-use mathlib.Core.Path.{◌≡◌, sym, ap, subst, ◌∙◌}
-use mathlib.Core.List.{List}
-use Prim.Native.Nat.{ℕ, ◌+◌, ◌-◌, ◌/◌, ◌≤◌, ◌<◌}
+use mathlib.Core.Path.{sym, ap, subst}
+use Prim.Native.Nat.{◌+◌, ◌/◌, ◌≤◌, ◌<◌}
 use native.Mathlib.Omega.{arith}
-use lib.ListN.{length, get_or}
+use lib.ListN.{length}
 use Rattle.radix.specs.Octets.{numbers_of}
 use Rattle.radix.proofs.Joined.{numbers_len}
-use Rattle.reader.specs.Answers.{verdict, data_in, checks_in}
+use Rattle.reader.specs.Answers.{data_in}
 use Rattle.reader.specs.ByTables.{read_by}
 use Rattle.reader.specs.declared.sight.Sight.{Sight}
-use Rattle.reader.proofs.Turns.{ShownBy, BytesBy, shown_none, bytes_none, shown_turn, bytes_turn, shown_end, bytes_end}
-use Rattle.reader.proofs.bytes.read_each.Invariants.{After}
+use Rattle.reader.proofs.Turns.{BytesBy, shown_none, bytes_none, shown_turn, bytes_turn, shown_end, bytes_end}
 use Rattle.reader.proofs.bytes.read_each.Goals as goal
 
 pub loop-i-init : goal.loop-i-init

@@ -1,17 +1,13 @@
 -- `reader::bytes::read_each` meets its contract: after i turns the bytes of i data words and i verdicts stand at the front, and the
 -- next frame is at hand.
 -- the outputs after i frames
-use mathlib.Core.Path.{◌≡◌, sym, ap, subst, ◌∙◌}
+use mathlib.Core.Path.{◌≡◌}
 use mathlib.Core.List.{List}
-use Prim.Native.Nat.{ℕ, ◌+◌, ◌-◌, ◌/◌, ◌≤◌, ◌<◌}
-use native.Mathlib.Omega.{arith}
+use Prim.Native.Nat.{ℕ, ◌-◌, ◌/◌, ◌≤◌}
 use lib.ListN.{length, get_or}
 use Rattle.radix.specs.Octets.{numbers_of}
-use Rattle.radix.proofs.Joined.{numbers_len}
 use Rattle.reader.specs.Answers.{verdict, data_in, checks_in}
-use Rattle.reader.specs.ByTables.{read_by}
-use Rattle.reader.specs.declared.sight.Sight.{Sight}
-use Rattle.reader.proofs.Turns.{ShownBy, BytesBy, shown_none, bytes_none, shown_turn, bytes_turn, shown_end, bytes_end}
+use Rattle.reader.proofs.Turns.{ShownBy, BytesBy}
 use Rattle.reader.proofs.bytes.read_each.Given as goal
 
 pub record After (c b fs ds₀ vs₀ cs₀ ds vs cs : List ℕ) (i frame : ℕ) : Type 0 where

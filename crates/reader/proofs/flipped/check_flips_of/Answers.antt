@@ -1,6 +1,5 @@
 -- `reader::flipped::check_flips_of` meets its contract.
 use native.Mathlib.Omega.{arith}
-use borrow.Author.Rules.{rules}
 use Rattle.reader.proofs.Entries.{count_checks}
 use Rattle.reader.proofs.flipped.check_flips_of.Goals as goal
 

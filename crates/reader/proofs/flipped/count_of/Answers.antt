@@ -1,8 +1,6 @@
 -- `reader::flipped::count_of` meets its contract.
 use mathlib.Core.Path.{sym, ap₂, ◌∙◌}
 use Prim.Native.Nat.{ℕ, ◌+◌}
-use native.Mathlib.Omega.{arith}
-use borrow.Author.Rules.{rules}
 use Rattle.reader.proofs.Entries.{count_places}
 use Rattle.reader.proofs.flipped.count_of.Goals as goal
 

@@ -1,5 +1,4 @@
 -- `reader::lists::read_all` meets its contract, by the rules of both tables.
-use borrow.Author.Rules.{rules}
 use Rattle.reader.proofs.ByTables.{shown_by_tables}
 use Rattle.reader.proofs.lists.read_all.Goals as goal
 

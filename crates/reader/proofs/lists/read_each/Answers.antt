@@ -1,15 +1,11 @@
 -- `reader::lists::read_each` meets its contract: after i turns the first i places of each output are written.
 -- the outputs after i frames
 use mathlib.Core.Path.{refl, sym, ap, subst}
-use mathlib.Core.List.{List}
-use mathlib.Core.Logic.{⊎_elim}
-use Prim.Native.Nat.{ℕ, ◌+◌, ◌-◌, ◌≤◌}
+use Prim.Native.Nat.{◌+◌}
 use native.Mathlib.Omega.{arith}
-use lib.ListN.{length}
-use Rattle.reader.specs.Answers.{verdict, data_in, pad_in, checks_in}
+use Rattle.reader.specs.Answers.{pad_in}
 use Rattle.reader.specs.declared.sight.Sight.{Sight}
 use Rattle.reader.proofs.Turns.{ShownBy, shown_none, shown_turn, shown_over, shown_end}
-use Rattle.reader.proofs.lists.read_each.Invariants.{After}
 use Rattle.reader.proofs.lists.read_each.Goals as goal
 use Rattle.reader.proofs.lists.read_each.Goals.{then-i-pads, else-i-pads}
 
@@ -36,9 +32,9 @@ loop-i-preserved c =
       verdicts = shown_turn l.invariant.verdicts h refl (ap (λ (x : Sight). x.verdict) s);
       checks = shown_turn l.invariant.checks h refl (ap (λ (x : Sight). x.checks) s);
       pads = elim c.if-i-pads.branch [
-            then-i-pads w ↦ subst P (sym w.pads-is) (shown_turn l.invariant.pads h refl (ap (λ (x : Sight). x.pad) s))
-            | else-i-pads w ↦ subst P (sym w.pads-is) (shown_over l.invariant.pads h w.if-i-pads.false)
-          ];
+        | then-i-pads w ↦ subst P (sym w.pads-is) (shown_turn l.invariant.pads h refl (ap (λ (x : Sight). x.pad) s))
+        | else-i-pads w ↦ subst P (sym w.pads-is) (shown_over l.invariant.pads h w.if-i-pads.false)
+      ];
     }
 
 pub returns : goal.returns

@@ -1,14 +1,10 @@
 -- `reader::lists::read_each` meets its contract: after i turns the first i places of each output are written.
 -- the outputs after i frames
-use mathlib.Core.Path.{refl, sym, ap, subst}
 use mathlib.Core.List.{List}
-use mathlib.Core.Logic.{⊎_elim}
-use Prim.Native.Nat.{ℕ, ◌+◌, ◌-◌, ◌≤◌}
-use native.Mathlib.Omega.{arith}
+use Prim.Native.Nat.{ℕ, ◌-◌, ◌≤◌}
 use lib.ListN.{length}
 use Rattle.reader.specs.Answers.{verdict, data_in, pad_in, checks_in}
-use Rattle.reader.specs.declared.sight.Sight.{Sight}
-use Rattle.reader.proofs.Turns.{ShownBy, shown_none, shown_turn, shown_over, shown_end}
+use Rattle.reader.proofs.Turns.{ShownBy}
 use Rattle.reader.proofs.lists.read_each.Given as goal
 
 pub record After (c b fs ds₀ vs₀ ps₀ cs₀ ds vs ps cs : List ℕ) (i : ℕ) : Type 0 where

@@ -1,7 +1,5 @@
 -- `reader::mend::as_received` meets its contract: its entry has no places.
 use mathlib.Core.Path.{ap}
-use native.Mathlib.Omega.{arith}
-use borrow.Author.Rules.{rules}
 use Rattle.paper.specs.Answer.{gives}
 use Rattle.bch.specs.Corrections.{places}
 use Rattle.reader.proofs.mend.as_received.Goals as goal

@@ -1,7 +1,6 @@
 -- `reader::mend::by_own_table` meets its contract, by the table's rule.
 use mathlib.Core.Path.{sym, ap, subst, ◌∙◌}
 use Prim.Native.Nat.{ℕ}
-use borrow.Author.Rules.{rules}
 use Rattle.decoding.specs.Reads.{Reads}
 use Rattle.reader.specs.ByTables.{mend_by, said_by}
 use Rattle.reader.proofs.ByTables.{read_mended}

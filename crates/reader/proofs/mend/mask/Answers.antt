@@ -1,6 +1,5 @@
 -- `reader::mend::mask` meets its contract.
 use mathlib.Core.Path.{refl}
-use borrow.Author.Rules.{rules}
 use Rattle.bch.specs.Corrections.{mask}
 use Rattle.reader.proofs.mend.mask.Goals as goal
 

@@ -1,6 +1,5 @@
 -- `reader::said::data_in` meets its contract.
 use mathlib.Core.Path.{refl}
-use borrow.Author.Rules.{rules}
 use Rattle.frame.specs.Word.{data_of}
 use Rattle.reader.proofs.said.data_in.Goals as goal
 

@@ -1,6 +1,5 @@
 -- `reader::sight::sight_by` meets its contract: mended, then said; a clean frame needs neither.
 use mathlib.Core.Path.{ap, ◌∙◌}
-use borrow.Author.Rules.{rules}
 use Rattle.reader.specs.Answers.{sight}
 use Rattle.reader.proofs.ByTables.{as_clean, as_mended}
 use Rattle.reader.proofs.sight.sight_by.Goals as goal

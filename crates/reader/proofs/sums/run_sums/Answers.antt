@@ -1,7 +1,6 @@
 -- `reader::sums::run_sums` meets its contract: positions 16, 33 and 50 are the coefficients of x^46, x^29 and x^12.
 use mathlib.Core.Path.{ap₂}
 use Prim.Native.Nat.{ℕ, ◌+◌, ◌*◌}
-use borrow.Author.Rules.{rules}
 use Rattle.frame.specs.Sums.{run_sums}
 use Rattle.reader.proofs.sums.run_sums.Goals as goal
 

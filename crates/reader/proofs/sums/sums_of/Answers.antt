@@ -2,7 +2,6 @@
 use mathlib.Core.Path.{ap₂}
 use Prim.Native.Nat.{ℕ, ◌+◌, ◌*◌}
 use native.Mathlib.Omega.{arith}
-use borrow.Author.Rules.{rules}
 use Rattle.frame.specs.Sums.{sums}
 use Rattle.frame.proofs.Sums.{runs_lt}
 use Rattle.poly.proofs.Division.{rem_lt}

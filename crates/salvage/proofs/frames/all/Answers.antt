@@ -1,5 +1,4 @@
 -- `salvage::frames::all` meets its contract, by the rules of both tables.
-use borrow.Author.Rules.{rules}
 use Rattle.salvage.proofs.Turns.{leaves_by}
 use Rattle.salvage.proofs.frames.all.Goals as goal
 

@@ -1,7 +1,6 @@
 -- `salvage::frames::each` meets its contract: after n turns the first n frames have met their fates.
 use Prim.Native.Nat.{◌-◌}
-use native.Mathlib.Omega.{arith}
-use Rattle.salvage.proofs.Turns.{After, begun, room_altered, room_places, room_refused, turn, over}
+use Rattle.salvage.proofs.Turns.{After}
 use Rattle.salvage.proofs.frames.each.Given as goal
 
 abbrev pub invariant-loop-n : goal.invariant-loop-n

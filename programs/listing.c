@@ -1,4 +1,0 @@
-/* Counts the frames of a capture: listing [FILE] */
-int lks_listing(void);
-
-int main(void) { return lks_listing(); }

@@ -6,6 +6,11 @@
 -- │ TurnsTo t bs i  │ what the buffer bs comes to that i became of: all of it is     │
 -- │   r             │ counted and more may follow, or its first bytes and they are   │
 -- │                 │ the last, or nothing is                                        │
+-- │ Turn t r        │ what t comes to with some bytes more: r has the totals with    │
+-- │                 │ these, of whole frames where more may follow                   │
+-- │ Ran r           │ what an input comes to: the totals of r are those of some      │
+-- │                 │ pieces, counted one after the other from fresh, or go on so    │
+-- │                 │ with any pieces that follow                                    │
 -- │ Entries k is    │ the lists have the entries that k counts: is of the altered,   │
 -- │   ps rs         │ ps their places, rs of the refused                             │
 -- │ Shows r first   │ in the columns cs, the coefficient of x^(62-i) in r stands in  │
@@ -14,12 +19,15 @@
 -- │ Said r          │ the status 1, where something was said on standard error. That │
 -- │                 │ it is a status follows, and is stated for callers to find      │
 -- └─────────────────┴────────────────────────────────────────────────────────────────┘
-use Rattle.std.specs.Prelude.{◌≡◌, Bool, true, false, List, ℕ, ◌+◌, ◌-◌, ◌<◌, ◌≤◌, length, take, get_or, ℤ, pos}
+use Rattle.std.specs.Prelude.{◌≡◌, Bool, true, false, List, ℕ, ◌+◌, ◌-◌, ◌%◌, ◌<◌, ◌≤◌, length, take, get_or, ℤ, pos}
 use Rattle.input.specs.declared.Input.{Input}
 use Rattle.input.specs.declared.Input.TheVariants.{Full, Last, Failed}
+use Rattle.paper.specs.Answer.{gives}
+use Rattle.tally.specs.Counts.{fresh}
 use Rattle.tally.specs.declared.Tally.{Tally}
 use Rattle.lane.specs.Answers.{answer}
 use Rattle.lane.specs.Calls.{CountsPiece}
+use Rattle.lane.specs.Claims.{Pieces}
 use Rattle.lane.specs.declared.Totals.{Totals}
 use Rattle.lane.specs.declared.Counted.{Counted}
 use Rattle.lane.specs.declared.Counted.TheVariants as count
@@ -42,6 +50,18 @@ abbrev pub TurnsTo : Tally → List ℕ → Input → State → Type 0
 TurnsTo t bs Full r = (c : Counted) × CountsPiece t bs (answer c) × (r ≡ state_of c false)
 TurnsTo t bs (Last n) r = (c : Counted) × CountsPiece t (take n bs) (answer c) × (r ≡ state_of c true)
 TurnsTo t bs Failed r = r ≡ Unread
+
+unfoldable pub Turn : Tally → State → Type 0
+Turn t (More u) = (bs : List ℕ) × (length bs % 8 ≡ 0) × CountsPiece t bs (gives u)
+Turn t (Done u) = (bs : List ℕ) × CountsPiece t bs (gives u)
+Turn t Unread = Unit
+Turn t Refused = Unit
+
+unfoldable pub Ran : State → Type 0
+Ran (More u) = (bss : List (List ℕ)) (w : Totals) → Pieces u.tally bss w → (css : List (List ℕ)) × Pieces fresh css w
+Ran (Done u) = (bss : List (List ℕ)) × Pieces fresh bss u
+Ran Unread = Unit
+Ran Refused = Unit
 
 pub record Entries (k : Salvage-counts) (is ps rs : List ℕ) : Type 0 where
   pub altered : IsPrefixLen k.altered is

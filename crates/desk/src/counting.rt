@@ -1,7 +1,7 @@
 // The count of a whole input, buffer by buffer.
 ghost use Rattle.std.specs.Prelude.{◌≡◌};
 ghost use Rattle.input.specs.Calls.{Fits};
-ghost use Rattle.desk.specs.Parts.{state_of, TurnsTo};
+ghost use Rattle.desk.specs.Parts.{state_of, TurnsTo, Turn, Ran};
 
 use input::Input;
 use lane::{Counted, Totals};
@@ -40,14 +40,18 @@ fn turned(t: Tally, buffer: &[u8], i: Input) -> State
 }
 
 // One buffer of input, counted on.
-fn one_turn<R: Read>(reader: &mut R, t: Tally) -> State {
+fn one_turn<R: Read>(reader: &mut R, t: Tally) -> State
+    ensures { Turn t result }
+{
     let mut buffer = io::large_buffer();
     let i = input::load(reader, &mut buffer);
     turned(t, &buffer, i)
 }
 
 // The whole input. The tally is full long before the turns are used up.
-pub(crate) fn all<R: Read>(reader: &mut R) -> State {
+pub(crate) fn all<R: Read>(reader: &mut R) -> State
+    ensures { Ran result }
+{
     let mut state = one_turn(reader, Tally::fresh());
     let mut turns = 1u64 << 41;
     while 0 < turns {

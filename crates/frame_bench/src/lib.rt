@@ -1,5 +1,6 @@
 // The calls that bench/ measures, exported to C on 64-bit numbers.
 #![tactic(auto)]
+
 ghost use Rattle.std.specs.Prelude.{◌≡◌, leb, length};
 ghost use Rattle.paper.specs.Answer.{Answer, number_of, numbered};
 ghost use Rattle.laws.specs.Lent.{◌to◌, ◌over◌};

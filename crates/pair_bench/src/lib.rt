@@ -1,6 +1,7 @@
 // The calls on pairs that bench/ measures, exported to C on 64-bit numbers: apart from the lists of frames, since the compiler copies a
 // reader into its loop only where it has one.
 #![tactic(auto)]
+
 ghost use Rattle.paper.specs.Answer.{numbered};
 ghost use Rattle.laws.specs.Lent.{◌to◌};
 ghost use Rattle.pair.specs.Calls.{MakesPairs, ReadsPairs};

@@ -5,11 +5,15 @@ use maker::Making;
 use reader::{Flips, Reading, Word};
 use std::io;
 
+fn refusal(rt: &HostRuntime, n: u8) -> io::Result<()> {
+    println!(rt; ": {n}")
+}
+
 fn show_make(rt: &HostRuntime, data: u64) -> io::Result<()> {
     print!(rt; "make {data:012x}")?;
     match maker::make(data) {
         Making::Frame(f) => println!(rt; ": frame {f:016x}"),
-        Making::Refused(n) => println!(rt; ": {n}"),
+        Making::Refused(n) => refusal(rt, n),
     }
 }
 
@@ -34,7 +38,7 @@ fn show_read(rt: &HostRuntime, bits: u64) -> io::Result<()> {
     print!(rt; "read {bits:016x}")?;
     match reader::read(bits) {
         Reading::Lawful(w) => show_word(rt, w),
-        Reading::Refused(n) => println!(rt; ": {n}"),
+        Reading::Refused(n) => refusal(rt, n),
     }
 }
 

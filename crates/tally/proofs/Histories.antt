@@ -19,7 +19,7 @@ use Rattle.tally.specs.Claims.{Call, verdicts_in, flags_in, checks_in, told_in, 
 use Rattle.tally.specs.Claims.{CountsHistory, SomeHistory, OneHistory, ReachesInRange, OutsideIsNew}
 use Rattle.tally.specs.Claims.{SomeUnbroken, NoLonger, SomeAtEnd, NoLongerAtEnd}
 use Rattle.tally.specs.declared.Tally.{Tally}
-use Rattle.tally.proofs.Stretches.{some_longest, none_longer, some_current, none_at_end}
+use Rattle.tally.proofs.Stretches.{some_part, none_longer, some_end, no_longer_end}
 use Rattle.tally.proofs.Steps.{in_pieces, from_fresh}
 use Rattle.tally.proofs.Answers.{tests, taken, stays_in_range}
 
@@ -83,7 +83,7 @@ one_history t cs xs xs' u u' h k = histories_one h k
 
 pub some_unbroken : SomeUnbroken
 some_unbroken cs xs u h =
-    let s = some_longest xs in
+    let s = some_part xs in
     (s.0, s.1, s.2, s.3 ∙ sym (ap (λ (t : Tally). t.longest) (counts_history cs xs u h)))
 
 pub no_longer : NoLonger
@@ -91,8 +91,8 @@ no_longer cs xs u h ys zs s = omega (arith, none_longer xs ys zs s, ap (λ (t : 
 
 pub some_at_end : SomeAtEnd
 some_at_end cs xs u h =
-    let s = some_current xs in
+    let s = some_end xs in
     (s.0, s.1, s.2 ∙ sym (ap (λ (t : Tally). t.current) (counts_history cs xs u h)))
 
 pub no_longer_at_end : NoLongerAtEnd
-no_longer_at_end cs xs u h ys s = omega (arith, none_at_end xs ys s, ap (λ (t : Tally). t.current) (counts_history cs xs u h))
+no_longer_at_end cs xs u h ys s = omega (arith, no_longer_end xs ys s, ap (λ (t : Tally). t.current) (counts_history cs xs u h))

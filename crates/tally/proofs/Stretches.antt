@@ -4,8 +4,12 @@
 -- │ current_on      │ and its current one                                          │
 -- │ longest_fresh   │ from fresh they are those of the list                        │
 -- │ current_fresh   │                                                              │
--- │ current_few     │ the current stretch is no longer than the longest            │
+-- │ some_part       │ some stretch is as long as the longest                       │
+-- │ none_longer     │ and none is longer                                           │
+-- │ some_end        │ some stretch at the end is as long as the current one        │
+-- │ no_longer_end   │ and none at the end is longer                                │
 -- │ some_longest …  │ the statements of specs/Claims.antt by these names           │
+-- │ current_few     │ the current stretch is no longer than the longest            │
 -- └─────────────────┴──────────────────────────────────────────────────────────────┘
 use mathlib.Core.Path.{◌≡◌, refl, sym, ap, ◌∙◌}
 use mathlib.Core.Bool.{Bool, true, false, cond, not, ◌&&◌}
@@ -19,10 +23,10 @@ use lib.ListN.{length, length-append}
 use Rattle.laws.proofs.Truth.{two}
 use Rattle.tally.specs.Told.{Told}
 use Rattle.tally.specs.Ranges.{accepted}
+use Rattle.tally.specs.Claims.{SomeLongest, NoneLonger, SomeCurrent, NoneAtEnd}
 use Rattle.tally.specs.Stretches.{all_refused, leading, longest, current, Stretch}
 use Rattle.tally.specs.Counts.{fresh}
 use Rattle.tally.specs.Fold.{step, after}
-use Rattle.tally.specs.Claims.{SomeLongest, NoneLonger, SomeCurrent, NoneAtEnd}
 use Rattle.tally.specs.declared.Tally.{Tally}
 
 leading_few : (xs : List Told) → leading xs ≤ longest xs
@@ -96,10 +100,10 @@ begins (x ∷ xs) = by (accepted x.verdict) refl (begins xs)
     by true e s = ([], x ∷ xs, refl, refl, refl)
     by false e s = (x ∷ s.0, s.1, ap (λ (l : List Told). x ∷ l) s.2, simp (e, s.3), ap suc s.4)
 
-pub some_longest : SomeLongest
+pub some_part : (xs : List Told) → Some xs (longest xs)
 unfolding all_refused longest
-some_longest [] = ([], [], record { before = []; whole = refl; unbroken = refl }, refl)
-some_longest (x ∷ xs) = by (leb (longest xs) (leading (x ∷ xs))) refl (begins (x ∷ xs)) (some_longest xs)
+some_part [] = ([], [], record { before = []; whole = refl; unbroken = refl }, refl)
+some_part (x ∷ xs) = by (leb (longest xs) (leading (x ∷ xs))) refl (begins (x ∷ xs)) (some_part xs)
   where
     by : (b : Bool) → leb (longest xs) (leading (x ∷ xs)) ≡ b → First (x ∷ xs) (leading (x ∷ xs)) → Some xs (longest xs)
         → Some (x ∷ xs) (max (leading (x ∷ xs)) (longest xs))
@@ -124,10 +128,10 @@ none_longer xs ys zs s =
     let m = ys ++ zs in
     omega (arith, ap longest s.whole, grows s.before m, leading_few m, leads ys zs s.unbroken)
 
-pub some_current : SomeCurrent
+pub some_end : (xs : List Told) → Last xs (current xs)
 unfolding all_refused current
-some_current [] = ([], record { before = []; whole = refl; unbroken = refl }, refl)
-some_current (x ∷ xs) = by (all_refused (x ∷ xs)) refl (some_current xs)
+some_end [] = ([], record { before = []; whole = refl; unbroken = refl }, refl)
+some_end (x ∷ xs) = by (all_refused (x ∷ xs)) refl (some_end xs)
   where
     by : (b : Bool) → all_refused (x ∷ xs) ≡ b → Last xs (current xs) → Last (x ∷ xs) (cond b (length (x ∷ xs)) (current xs))
     by true e s = (x ∷ xs, record { before = []; whole = sym (append-nil (x ∷ xs)); unbroken = e }, refl)
@@ -142,10 +146,19 @@ ends (w ∷ ws) ys e = by (all_refused (w ∷ ws ++ ys)) (ends ws ys e)
     by true h = omega (arith, length-append ws ys)
     by false h = h
 
-pub none_at_end : NoneAtEnd
-none_at_end xs ys s =
+pub no_longer_end : (xs ys : List Told) → Stretch xs ys [] → length ys ≤ current xs
+no_longer_end xs ys s =
     let e = s.whole ∙ ap (λ (l : List Told). s.before ++ l) (append-nil ys) in
     omega (arith, ap current e, ends s.before ys s.unbroken)
 
 pub current_few : (xs : List Told) → current xs ≤ longest xs
-current_few xs = let s = some_current xs in omega (arith, s.2, none_longer xs s.0 [] s.1)
+current_few xs = let s = some_end xs in omega (arith, s.2, none_longer xs s.0 [] s.1)
+
+pub some_longest : SomeLongest
+some_longest = some_part
+
+pub some_current : SomeCurrent
+some_current = some_end
+
+pub none_at_end : NoneAtEnd
+none_at_end = no_longer_end

@@ -12,11 +12,10 @@ use mathlib.Core.Bool.{Bool, true, false, cond, ◌&&◌}
 use mathlib.Core.Logic.{◌⊎◌, inl, inr}
 use Prim.Native.Nat.{ℕ, zero, suc, ◌^◌, ◌<◌}
 use native.Mathlib.Omega.{arith}
+use Rattle.std.specs.Prelude.{Ok}
 use Rattle.paper.proofs.Answer.{passed}
 use Rattle.laws.proofs.Truth.{two}
 use Rattle.bus.specs.declared.Bus.{Bus}
-use Rattle.bus.specs.declared.Driven.TheVariants.{Now}
-use Rattle.bus.specs.declared.Received.TheVariants.{Word}
 use Rattle.bus.specs.Wires.{inverted}
 use Rattle.bus.specs.Rule.{state, plain, turned_over, in_range, crowded, next, undone}
 use Rattle.bus.specs.Calls.{Sends}
@@ -30,7 +29,7 @@ pub record Taken (b n : Bus) (y : ℕ) : Type 0 where
   pub carried : InRange (plain b.width y)
   pub to : n ≡ next b y
 
-pub taken : (b n : Bus) (y : ℕ) → Sends b y (Now n) → Taken b n y
+pub taken : (b n : Bus) (y : ℕ) → Sends b y (Ok n) → Taken b n y
 taken b n y s =
     let e = passed 10 (in_range b && in_range (plain b.width y)) (next b y) n s in
     let q = two (in_range b) _ e.0 in
@@ -55,7 +54,7 @@ pub undoes : Undoes
 undoes b n y r s p =
     let t = taken b n y s in
     let back : undone n.width n.wires n.invert ≡ y = rw t.to (sent_undone (crowded b y) b.width y t.carried.below) in
-    one_receive n.width n.wires n.invert r (Word y) p (simp (stays_in_range b n y s, back))
+    one_receive n.width n.wires n.invert r (Ok y) p (simp (stays_in_range b n y s, back))
 
 -- whichever candidate it is
 either_carries : (t : Bool) (w y : ℕ) → InRange (plain w y) → Carries (cond t (turned_over w y) (plain w y)) y

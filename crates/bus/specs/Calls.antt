@@ -5,20 +5,19 @@
 -- │                │ on the wires                                                   │
 -- │ Receives w x v │ `receive`: the data                                            │
 -- └────────────────┴────────────────────────────────────────────────────────────────┘
-use Rattle.std.specs.Prelude.{◌≡◌, ◌&&◌, ℕ}
+use Rattle.std.specs.Prelude.{◌≡◌, ◌&&◌, ℕ, Result}
 use Rattle.paper.specs.Numbers.{outside, unless}
 use Rattle.paper.specs.Answer.{owed}
+use Rattle.paper.specs.declared.Refusal.{Refusal}
 use Rattle.bus.specs.declared.Bus.{Bus}
-use Rattle.bus.specs.declared.Driven.{Driven}
-use Rattle.bus.specs.declared.Received.{Received}
 use Rattle.bus.specs.Rule.{state, plain, in_range, next, undone}
-use Rattle.bus.specs.Answers.{driven, received}
+use Rattle.paper.specs.Answer.{answer}
 
-abbrev pub Starts : ℕ → Driven → Type 0
-Starts w r = driven r ≡ owed (unless outside (in_range (plain w 0))) (plain w 0)
+abbrev pub Starts : ℕ → Result Bus Refusal → Type 0
+Starts w r = answer r ≡ owed (unless outside (in_range (plain w 0))) (plain w 0)
 
-abbrev pub Sends : Bus → ℕ → Driven → Type 0
-Sends b y r = driven r ≡ owed (unless outside (in_range b && in_range (plain b.width y))) (next b y)
+abbrev pub Sends : Bus → ℕ → Result Bus Refusal → Type 0
+Sends b y r = answer r ≡ owed (unless outside (in_range b && in_range (plain b.width y))) (next b y)
 
-abbrev pub Receives : ℕ → ℕ → ℕ → Received → Type 0
-Receives w x v r = received r ≡ owed (unless outside (in_range (state w x v))) (undone w x v)
+abbrev pub Receives : ℕ → ℕ → ℕ → Result ℕ Refusal → Type 0
+Receives w x v r = answer r ≡ owed (unless outside (in_range (state w x v))) (undone w x v)

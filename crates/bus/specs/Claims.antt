@@ -18,41 +18,38 @@
 -- │ HalfAtMost    │ at most half of width + 1 wires, rounded down, change in a step │
 -- │ HalfReached   │ and so many do at every width, already from rest                │
 -- └───────────────┴─────────────────────────────────────────────────────────────────┘
-use Rattle.std.specs.Prelude.{◌≡◌, true, ◌⊎◌, ℕ, ◌+◌, ◌/◌, ◌^◌, ◌<◌, ◌≤◌}
+use Rattle.std.specs.Prelude.{◌≡◌, true, ◌⊎◌, ℕ, ◌+◌, ◌/◌, ◌^◌, ◌<◌, ◌≤◌, Result, Ok}
 use Rattle.std.specs.Int.Bits.{bit_xor}
 use Rattle.std.specs.Int.Count.{ones}
+use Rattle.paper.specs.declared.Refusal.{Refusal}
 use Rattle.bus.specs.declared.Bus.{Bus}
-use Rattle.bus.specs.declared.Driven.{Driven}
-use Rattle.bus.specs.declared.Driven.TheVariants.{Now}
-use Rattle.bus.specs.declared.Received.{Received}
-use Rattle.bus.specs.declared.Received.TheVariants.{Word}
 use Rattle.bus.specs.Wires.{apart}
 use Rattle.bus.specs.Rule.{plain, turned_over, in_range, changes}
 use Rattle.bus.specs.Calls.{Starts, Sends, Receives}
 
 abbrev pub OneStart : Type 0
-OneStart = (w : ℕ) (r s : Driven) → Starts w r → Starts w s → r ≡ s
+OneStart = (w : ℕ) (r s : Result Bus Refusal) → Starts w r → Starts w s → r ≡ s
 
 abbrev pub OneSend : Type 0
-OneSend = (b : Bus) (y : ℕ) (r s : Driven) → Sends b y r → Sends b y s → r ≡ s
+OneSend = (b : Bus) (y : ℕ) (r s : Result Bus Refusal) → Sends b y r → Sends b y s → r ≡ s
 
 abbrev pub OneReceive : Type 0
-OneReceive = (w x v : ℕ) (r s : Received) → Receives w x v r → Receives w x v s → r ≡ s
+OneReceive = (w x v : ℕ) (r s : Result ℕ Refusal) → Receives w x v r → Receives w x v s → r ≡ s
 
 abbrev pub CountIsApart : Type 0
 CountIsApart = (w x y : ℕ) → x < 2 ^ w → y < 2 ^ w → ones (bit_xor x y) ≡ apart w x y
 
 abbrev pub BeginsInRange : Type 0
-BeginsInRange = (w : ℕ) (b : Bus) → Starts w (Now b) → in_range b ≡ true
+BeginsInRange = (w : ℕ) (b : Bus) → Starts w (Ok b) → in_range b ≡ true
 
 abbrev pub StaysInRange : Type 0
-StaysInRange = (b n : Bus) (y : ℕ) → Sends b y (Now n) → in_range n ≡ true
+StaysInRange = (b n : Bus) (y : ℕ) → Sends b y (Ok n) → in_range n ≡ true
 
 abbrev pub Undoes : Type 0
-Undoes = (b n : Bus) (y : ℕ) (r : Received) → Sends b y (Now n) → Receives n.width n.wires n.invert r → r ≡ Word y
+Undoes = (b n : Bus) (y : ℕ) (r : Result ℕ Refusal) → Sends b y (Ok n) → Receives n.width n.wires n.invert r → r ≡ Ok y
 
 abbrev pub Carries : Bus → ℕ → Type 0
-Carries m y = Receives m.width m.wires m.invert (Word y)
+Carries m y = Receives m.width m.wires m.invert (Ok y)
 
 abbrev pub BothCarry : Type 0
 BothCarry = (w y : ℕ) → in_range (plain w y) ≡ true → Carries (plain w y) y × Carries (turned_over w y) y
@@ -67,19 +64,19 @@ BothTogether =
 
 abbrev pub TieAsItIs : Type 0
 TieAsItIs =
-    (b n : Bus) (y : ℕ) → Sends b y (Now n)
+    (b n : Bus) (y : ℕ) → Sends b y (Ok n)
     → changes b (plain b.width y) ≡ changes b (turned_over b.width y) → n ≡ plain b.width y
 
 abbrev pub FewerOfBoth : Type 0
 FewerOfBoth =
-    (b n : Bus) (y : ℕ) → Sends b y (Now n)
+    (b n : Bus) (y : ℕ) → Sends b y (Ok n)
     → (changes b n ≤ changes b (plain b.width y)) × (changes b n ≤ changes b (turned_over b.width y))
 
 abbrev pub FewestOfAll : Type 0
-FewestOfAll = (b n m : Bus) (y : ℕ) → Sends b y (Now n) → m.width ≡ b.width → Carries m y → changes b n ≤ changes b m
+FewestOfAll = (b n m : Bus) (y : ℕ) → Sends b y (Ok n) → m.width ≡ b.width → Carries m y → changes b n ≤ changes b m
 
 abbrev pub HalfAtMost : Type 0
-HalfAtMost = (b n : Bus) (y : ℕ) → Sends b y (Now n) → changes b n ≤ (b.width + 1) / 2
+HalfAtMost = (b n : Bus) (y : ℕ) → Sends b y (Ok n) → changes b n ≤ (b.width + 1) / 2
 
 abbrev pub HalfReached : Type 0
-HalfReached = (w : ℕ) (b : Bus) → Starts w (Now b) → (y : ℕ) × (n : Bus) × Sends b y (Now n) × (changes b n ≡ (w + 1) / 2)
+HalfReached = (w : ℕ) (b : Bus) → Starts w (Ok b) → (y : ℕ) × (n : Bus) × Sends b y (Ok n) × (changes b n ≡ (w + 1) / 2)

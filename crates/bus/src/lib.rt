@@ -7,45 +7,24 @@ ghost use Rattle.bus.specs.Rule as rule;
 ghost use Rattle.bus.specs.Rule.{widest, in_range};
 ghost use Rattle.bus.specs.Calls.{Starts, Sends, Receives};
 
+use paper::Refusal;
+
 // The data wires of a bus at most.
 const WIDEST: u32 = 31;
 
 // What the sender drives: `width` data wires, the lowest wire the lowest bit, and the invert wire.
-#[derive(Clone, Copy)]
+#[derive(Clone, Copy, Debug, PartialEq, Eq)]
 pub struct Bus {
     pub width: u32,
     pub wires: u32,
     pub invert: u8,
 }
 
-// The state that the bus now has.
-#[derive(Clone, Copy)]
-pub enum Driven {
-    Now(Bus),
-    Refused(u8),
-}
-
-// The data that the sender was given.
-#[derive(Clone, Copy)]
-pub enum Received {
-    Word(u32),
-    Refused(u8),
-}
-
 // Whether these are wires of a bus: what row 11 asks of a state handed in, of data to be sent and of what is received.
 fn in_range(b: Bus) -> bool
     ensures { result ≡ in_range b }
 {
-    if b.width < 1 {
-        return false;
-    }
-    if WIDEST < b.width {
-        return false;
-    }
-    if 1u32 << b.width <= b.wires {
-        return false;
-    }
-    b.invert <= 1
+    1 <= b.width && b.width <= WIDEST && b.wires < 1 << b.width && b.invert <= 1
 }
 
 // All wires of a bus as one number, the invert wire above the data wires: 32 bits at the widest.
@@ -53,7 +32,7 @@ fn all_wires(width: u32, wires: u32, invert: u8) -> u32
     requires { (width ≤ widest) × (wires < 2 ^ width) × (invert ≤ 1) }
     ensures { result ≡ invert * 2 ^ width + wires }
 {
-    ((invert as u32) << width) + wires
+    (u32::from(invert) << width) + wires
 }
 
 // The rule by which the sender inverts.
@@ -62,7 +41,7 @@ fn crowded(b: Bus, data: u32) -> bool
     ensures { result ≡ rule.crowded b «data» }
 {
     // Data as it is has the invert wire cleared: it is the number of all wires itself.
-    let changing = u32::count_ones(all_wires(b.width, b.wires, b.invert) ^ data);
+    let changing = (all_wires(b.width, b.wires, b.invert) ^ data).count_ones();
     // The data inverted changes the wires that it leaves.
     b.width + 1 - changing < changing
 }
@@ -99,36 +78,38 @@ fn turned_over(width: u32, data: u32) -> Bus
 
 impl Bus {
     // A bus at rest.
-    pub fn fresh(width: u32) -> Driven
+    pub fn fresh(width: u32) -> Result<Bus, Refusal>
         ensures { Starts width result }
     {
         let rest = plain(width, 0);
         if in_range(rest) {
-            return Driven::Now(rest);
+            Ok(rest)
+        } else {
+            Err(Refusal::Outside)
         }
-        Driven::Refused(paper::OUTSIDE)
     }
 
     // The state in which the data is on the wires.
-    pub fn send(self, data: u32) -> Driven
+    pub fn send(self, data: u32) -> Result<Bus, Refusal>
         ensures { Sends self «data» result }
     {
         if !in_range(self) {
-            return Driven::Refused(paper::OUTSIDE);
+            return Err(Refusal::Outside);
         }
         let as_it_is = plain(self.width, data);
         if !in_range(as_it_is) {
-            return Driven::Refused(paper::OUTSIDE);
+            return Err(Refusal::Outside);
         }
         if crowded(self, data) {
-            return Driven::Now(turned_over(self.width, data));
+            Ok(turned_over(self.width, data))
+        } else {
+            Ok(as_it_is)
         }
-        Driven::Now(as_it_is)
     }
 }
 
 // The data on the wires. The receiver keeps no state.
-pub fn receive(width: u32, wires: u32, invert: u8) -> Received
+pub fn receive(width: u32, wires: u32, invert: u8) -> Result<u32, Refusal>
     ensures { Receives width wires invert result }
 {
     if !in_range(Bus {
@@ -136,10 +117,11 @@ pub fn receive(width: u32, wires: u32, invert: u8) -> Received
         wires,
         invert,
     }) {
-        return Received::Refused(paper::OUTSIDE);
+        return Err(Refusal::Outside);
     }
     if invert == 0 {
-        return Received::Word(wires);
+        Ok(wires)
+    } else {
+        Ok(inverted(width, wires))
     }
-    Received::Word(inverted(width, wires))
 }

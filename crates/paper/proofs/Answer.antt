@@ -5,7 +5,7 @@
 -- │ never_both    │ no answer is a value and a refusal                              │
 -- │ either        │ by cases: the value, or the refusal                             │
 -- │ known_by      │ what can be told back from f of it is known from f of it        │
--- │ listed_one    │ a `Listed` is known from its answer                             │
+-- │ answer_one    │ a result is known from its answer                               │
 -- │ numbered_one  │ and so is a number                                              │
 -- │ numbered_back │ the number of an answer that is owed says it                    │
 -- │ given         │ a value is owed only where nothing is refused                   │
@@ -13,11 +13,12 @@
 -- └───────────────┴─────────────────────────────────────────────────────────────────┘
 use mathlib.Core.Path.{◌≡◌, refl, sym, ap, ◌∙◌, subst}
 use mathlib.Core.Bool.{Bool, true, false}
-use Prim.Native.Nat.{ℕ, zero, suc}
+use Prim.Native.Nat.{ℕ, zero, suc, ◌-◌}
 use Rattle.paper.specs.Numbers.{unless}
-use Rattle.paper.specs.Answer.{Answer, gives, refused, owed, listed, number_of, numbered}
-use Rattle.paper.specs.declared.Listed.{Listed}
-use Rattle.paper.specs.declared.Listed.TheVariants.{Done, Refused}
+use Rattle.std.specs.Prelude.{List, [], ◌∷◌, Result, Ok, Err}
+use Rattle.paper.specs.Answer.{Answer, gives, refused, owed, answer, number_of, numbered}
+use Rattle.paper.specs.declared.Refusal.{Refusal}
+use Rattle.paper.specs.declared.Refusal.TheVariants.{Outside, Unfit, NoWord, RunBroken, NoBlock, Eighth, TooManyBits, AllZero, NothingCompared, PastCount, NoTag, Disagreeing, TooManyFrames}
 
 pub gives_one : {A : Type 0} (a b : A) → gives a ≡ gives b → a ≡ b
 gives_one a b e = cc
@@ -41,12 +42,50 @@ either g r (refused n) = r n
 pub known_by : {A E : Type 0} (f : E → A) (back : A → E) → ((e : E) → back (f e) ≡ e) → (x y : E) → f x ≡ f y → x ≡ y
 known_by f back same x y e = sym (same x) ∙ ap back e ∙ same y
 
-pub listed_one : (r s : Listed) → listed r ≡ listed s → r ≡ s
-listed_one = known_by listed (either (λ u. Done) Refused) back
+-- the refusals from 11 on
+in_turn : List Refusal
+in_turn =
+    Outside
+    ∷ Unfit
+    ∷ NoWord
+    ∷ RunBroken
+    ∷ NoBlock
+    ∷ Eighth
+    ∷ TooManyBits
+    ∷ AllZero
+    ∷ NothingCompared
+    ∷ PastCount
+    ∷ NoTag
+    ∷ Disagreeing
+    ∷ []
+
+nth : List Refusal → ℕ → Refusal
+nth [] n = TooManyFrames
+nth (r ∷ rs) zero = r
+nth (r ∷ rs) (suc n) = nth rs n
+
+refusal : ℕ → Refusal
+refusal n = nth in_turn (n - 11)
+
+pub answer_one : {A : Type 0} (r s : Result A Refusal) → answer r ≡ answer s → r ≡ s
+unfolding refusal nth in_turn
+answer_one {A} = known_by answer (either Ok (λ n. Err (refusal n))) back
   where
-    back : (l : Listed) → either (λ u. Done) Refused (listed l) ≡ l
-    back Done = refl
-    back (Refused n) = refl
+    back : (r : Result A Refusal) → either Ok (λ n. Err (refusal n)) (answer r) ≡ r
+    back (Ok a) = refl
+    back (Err Outside) = refl
+    back (Err Unfit) = refl
+    back (Err NoWord) = refl
+    back (Err RunBroken) = refl
+    back (Err NoBlock) = refl
+    back (Err Eighth) = refl
+    back (Err TooManyBits) = refl
+    back (Err AllZero) = refl
+    back (Err NothingCompared) = refl
+    back (Err PastCount) = refl
+    back (Err NoTag) = refl
+    back (Err Disagreeing) = refl
+    back (Err TooManyFrames) = refl
 
 pub numbered_one : (m n : ℕ) → numbered m ≡ numbered n → m ≡ n
 numbered_one zero zero e = refl

@@ -10,6 +10,9 @@
 -- │ all_zero         │ 18 │ a register of zeros                                       │
 -- │ nothing_compared │ 19 │ a report before any bit was compared                      │
 -- │ past_count       │ 20 │ a count would pass `most_counted`                          │
+-- │ no_tag           │ 21 │ no such tag, or under 24 bytes                            │
+-- │ disagreeing     │ 22 │ the numbers of the trailer disagree with the file         │
+-- │ too_many_frames   │ 23 │ over 8,000 frames                                         │
 -- ├─────────────────┼────┴───────────────────────────────────────────────────────────┤
 -- │ unless n b      │ 0, no refusal, where the test b is passed; n where it is not   │
 -- │ most_bytes       │ of a piece and of a buffer                                     │
@@ -47,6 +50,15 @@ nothing_compared = 19
 
 abbrev pub past_count : ℕ
 past_count = 20
+
+abbrev pub no_tag : ℕ
+no_tag = 21
+
+abbrev pub disagreeing : ℕ
+disagreeing = 22
+
+abbrev pub too_many_frames : ℕ
+too_many_frames = 23
 
 abbrev pub unless : ℕ → Bool → ℕ
 unless n true = 0

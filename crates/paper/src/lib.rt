@@ -2,29 +2,51 @@
 #![tactic(auto)]
 
 ghost use Rattle.std.specs.Prelude.{◌≡◌};
-ghost use Rattle.paper.specs.Answer.{listed, number_of};
+ghost use Rattle.paper.specs.Answer.{code, answer, number_of};
 
-// Data, a state, a verdict or a flag that is none.
-pub const OUTSIDE: u8 = 11;
+use std::error::Error;
+use std::fmt;
 
-// Lengths that do not fit.
-pub const UNFIT: u8 = 12;
+// The refusals, each by its number in the paper's table.
+#[derive(Clone, Copy, Debug, PartialEq, Eq)]
+pub enum Refusal {
+    // Data, a state, a verdict or a flag that is none.
+    Outside = 11,
+    // Lengths that do not fit.
+    Unfit = 12,
+    NoWord = 13,
+    RunBroken = 14,
+    NoBlock = 15,
+    Eighth = 16,
+    TooManyBits = 17,
+    AllZero = 18,
+    NothingCompared = 19,
+    PastCount = 20,
+    // No such tag, or under 24 bytes.
+    NoTag = 21,
+    // The trailer's numbers disagree with the file.
+    Disagreeing = 22,
+    // Over 8,000 frames.
+    TooManyFrames = 23,
+}
 
-pub const NO_WORD: u8 = 13;
+impl Refusal {
+    // Its number.
+    pub fn code(self) -> u8
+        ensures { result ≡ code self }
+    {
+        self as u8
+    }
+}
 
-pub const RUN_BROKEN: u8 = 14;
+// A refusal is shown as its number.
+impl fmt::Display for Refusal {
+    fn fmt<W: fmt::Write>(&self, f: &mut fmt::Formatter<W>) -> fmt::Result {
+        self.code().fmt(f)
+    }
+}
 
-pub const NO_BLOCK: u8 = 15;
-
-pub const EIGHTH: u8 = 16;
-
-pub const TOO_MANY_BITS: u8 = 17;
-
-pub const ALL_ZERO: u8 = 18;
-
-pub const NOTHING_COMPARED: u8 = 19;
-
-pub const PAST_COUNT: u8 = 20;
+impl Error for Refusal {}
 
 // Of a piece and of a buffer.
 pub const MOST_BYTES: usize = 65536;
@@ -32,19 +54,12 @@ pub const MOST_BYTES: usize = 65536;
 // Frames and check flips of a tally, bits of a counter: 2^53 - 1.
 pub const MOST_COUNTED: u64 = 9007199254740991;
 
-// What a call answers that leaves its values in lent lists: done, or the number of the refusal.
-#[derive(Clone, Copy)]
-pub enum Listed {
-    Done,
-    Refused(u8),
-}
-
-// The number of such an answer towards C: 0 where it is done.
-pub fn number_of(l: Listed) -> u8
-    ensures { result ≡ number_of (listed l) }
+// The number of an answer towards C: 0 where nothing is refused.
+pub fn number_of<T: Copy>(r: Result<T, Refusal>) -> u8
+    ensures { result ≡ number_of (answer r) }
 {
-    match l {
-        Listed::Done => 0,
-        Listed::Refused(n) => n,
+    match r {
+        Ok(_) => 0,
+        Err(e) => e.code(),
     }
 }

@@ -10,16 +10,13 @@ use borrow.Author.Tests.{ltb-true, lt-ltb}
 use lib.ListN.{length, get_or, take, drop, take-append-drop, length-append, length-take, length-drop, get_or-append}
 use lib.Seq.{get_or-append-add, get_or-take, get_or-drop, length-take-le, drop-drop}
 use Rattle.paper.specs.Numbers.{outside, unfit, unless}
-use Rattle.paper.specs.Answer.{Answer, gives, owed, done, listed}
-use Rattle.paper.proofs.Answer.{either, known_by, gives_one, never_both, listed_one}
+use Rattle.paper.specs.Answer.{Answer, gives, owed, done, answer}
+use Rattle.paper.proofs.Answer.{gives_one, never_both, answer_one}
 use Rattle.laws.specs.Lent.{Left}
 use Rattle.laws.proofs.Writing.{one_left}
 use Rattle.radix.specs.Octets.{joined, in_bytes}
-use Rattle.octets.specs.Answers.{answer}
 use Rattle.octets.specs.Calls.{there, inside, placed}
 use Rattle.octets.specs.Claims.{PutBack, GotBack, OthersStay, OneGot, OnePut}
-use Rattle.octets.specs.declared.place.Got.{Got}
-use Rattle.octets.specs.declared.place.Got.TheVariants.{Number, Refused}
 use Rattle.radix.proofs.Digits.{length_in, joined_lt, back, in_joined}
 use Rattle.radix.proofs.Joined.{joined_first, joined_second}
 use Rattle.octets.proofs.Placed.{is_there}
@@ -94,18 +91,11 @@ others_stay o₀ o at n x p =
     let h = is_there at n (length o₀) q.0 in
     (ap length p.bytes ∙ placed_length o₀ at n x h.2, λ i w. ap (λ (l : List ℕ). get_or l i 0) p.bytes ∙ other o₀ at n x h.2 i w)
 
-got_one : (r s : Got) → answer r ≡ answer s → r ≡ s
-got_one = known_by answer (either Number Refused) back
-  where
-    back : (r : Got) → either Number Refused (answer r) ≡ r
-    back (Number a) = refl
-    back (Refused n) = refl
-
 pub one_got : OneGot
-one_got bs at n r s g h = got_one r s (g ∙ sym h)
+one_got bs at n r s g h = answer_one r s (g ∙ sym h)
 
 pub one_put : OnePut
 one_put o₀ o p at n x r s a b =
-    let e : listed r ≡ listed s = a.answer ∙ sym b.answer in
+    let e : answer r ≡ answer s = a.answer ∙ sym b.answer in
     let w = subst (λ (l : Answer Unit). Left l (o ≡ placed o₀ at n x) o₀ o) e a.bytes in
-    (listed_one r s e, one_left (listed s) o₀ (λ u v. u ∙ sym v) w b.bytes)
+    (answer_one r s e, one_left (answer s) o₀ (λ u v. u ∙ sym v) w b.bytes)

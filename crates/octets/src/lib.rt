@@ -6,7 +6,7 @@ ghost use Rattle.radix.specs.Octets.{joined, numbers_of, eight, stored};
 
 mod place;
 
-pub use place::{Got, get, put};
+pub use place::{get, put};
 
 fn four(a: u8, b: u8, c: u8, d: u8) -> u64
     ensures { (result ≡ ((a * 256 + b) * 256 + c) * 256 + d) × (result < 2 ^ 32) }

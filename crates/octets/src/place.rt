@@ -1,32 +1,15 @@
 // A number of n bytes, 1 to 8, from any place on, highest byte first.
 ghost use Rattle.std.specs.Prelude.{◌≡◌, ◌+◌, ◌≤◌, ◌<◌, length};
-ghost use Rattle.paper.specs.Answer.{listed};
+ghost use Rattle.paper.specs.Answer.{answer};
 ghost use Rattle.radix.specs.Octets.{joined, in_bytes};
-ghost use Rattle.octets.specs.Answers.{answer};
 ghost use Rattle.octets.specs.Calls.{there, inside, Gets, Puts};
 
-use paper::Listed;
-
-// The number, or 12 where its bytes are not all there.
-#[derive(Clone, Copy)]
-pub enum Got {
-    Number(u64),
-    Refused(u8),
-}
+use paper::Refusal;
 
 fn there(at: usize, n: usize, len: usize) -> bool
     ensures { result ≡ there at n len }
 {
-    if n < 1 {
-        return false;
-    }
-    if 8 < n {
-        return false;
-    }
-    if len < n {
-        return false;
-    }
-    at <= len - n
+    1 <= n && n <= 8 && n <= len && at <= len - n
 }
 
 fn gathered(bytes: &[u8], at: usize, n: usize) -> u64
@@ -43,13 +26,13 @@ fn gathered(bytes: &[u8], at: usize, n: usize) -> u64
 }
 
 // The number of the n bytes from place `at` on.
-pub fn get(bytes: &[u8], at: usize, n: usize) -> Got
+pub fn get(bytes: &[u8], at: usize, n: usize) -> Result<u64, Refusal>
     ensures { Gets bytes.now at n (answer result) }
 {
     if !there(at, n, bytes.len()) {
-        return Got::Refused(paper::UNFIT);
+        return Err(Refusal::Unfit);
     }
-    Got::Number(gathered(bytes, at, n))
+    Ok(gathered(bytes, at, n))
 }
 
 fn inside(n: usize, x: u64) -> bool
@@ -76,15 +59,15 @@ fn lay(out: &mut [u8], x: u64)
 }
 
 // x in the n bytes from place `at` on; 12 where they are not all there, 11 where x has more.
-pub fn put(out: &mut [u8], at: usize, n: usize, x: u64) -> Listed
-    ensures { Puts out.old at n x (listed result) out.new }
+pub fn put(out: &mut [u8], at: usize, n: usize, x: u64) -> Result<(), Refusal>
+    ensures { Puts out.old at n x (answer result) out.new }
 {
     if !there(at, n, out.len()) {
-        return Listed::Refused(paper::UNFIT);
+        return Err(Refusal::Unfit);
     }
     if !inside(n, x) {
-        return Listed::Refused(paper::OUTSIDE);
+        return Err(Refusal::Outside);
     }
     lay(&mut out[at..at + n], x);
-    Listed::Done
+    Ok(())
 }

@@ -9,11 +9,14 @@
 -- │ true_is     │ and the other way round                                          │
 -- │ two         │ the parts of a test that is two, as equations                    │
 -- │ neither     │ of two alternatives, where none holds                            │
+-- │ ltb_same    │ two comparisons that say one thing are one                       │
 -- └─────────────┴──────────────────────────────────────────────────────────────────┘
-use mathlib.Core.Path.{◌≡◌, refl, sym, subst}
+use mathlib.Core.Path.{◌≡◌, refl, sym, subst, ◌∙◌}
 use mathlib.Core.Bool.{Bool, true, false, not, ◌&&◌, ◌||◌}
 use mathlib.Core.Logic.{◌⊎◌, inl, inr}
-use lib.Dec.{T}
+use Prim.Native.Nat.{ℕ, ◌≤◌, ◌<◌}
+use lib.Dec.{T, ltb}
+use borrow.Author.Tests.{lt-ltb, le-ltb, ltb-true, ltb-false}
 
 pub and_l : (a b : Bool) → T (a && b) → T a
 and_l true b t = tt
@@ -53,3 +56,10 @@ two false b e = absurd (is_true e)
 pub neither : (x y : Bool) → x || y ≡ false → (x ≡ false) × (y ≡ false)
 neither false y e = (refl, e)
 neither true y e = absurd (is_true (sym e))
+
+pub ltb_same : (m n p q : ℕ) → (m < n → p < q) → (n ≤ m → q ≤ p) → ltb m n ≡ ltb p q
+ltb_same m n p q f g = go (ltb m n) refl
+  where
+    go : (t : Bool) → ltb m n ≡ t → ltb m n ≡ ltb p q
+    go true e = e ∙ sym (lt-ltb p q (f (ltb-true m n e)))
+    go false e = e ∙ sym (le-ltb p q (g (ltb-false m n e)))

@@ -8,19 +8,16 @@ use mathlib.Core.Path.{◌≡◌, refl, sym, ap, ◌∙◌}
 use mathlib.Core.List.{[], ◌∷◌}
 use Prim.Native.Nat.{ℕ}
 use lib.ListN.{get_or}
-use Rattle.paper.specs.Answer.{Answer, gives, refused}
-use Rattle.paper.proofs.Answer.{either, known_by}
+use Rattle.paper.specs.Answer.{Answer, gives, refused, answer}
+use Rattle.paper.proofs.Answer.{answer_one}
 use Rattle.laws.proofs.Truth.{is_true}
 use Rattle.laws.proofs.Writing.{one_call}
 use Rattle.radix.specs.Octets.{numbers_of}
 use Rattle.frame.specs.Word.{FrameOf}
 use Rattle.frame.proofs.Frames.{one_frame}
-use Rattle.maker.specs.Answers.{answer}
 use Rattle.maker.specs.Makes.{Makes}
 use Rattle.maker.specs.Lists.{list_refusal, bytes_refusal, in_order, as_bytes}
 use Rattle.maker.specs.Claims.{OneMaking, OneMadeList, OneMadeBytes}
-use Rattle.maker.specs.declared.Making.{Making}
-use Rattle.maker.specs.declared.Making.TheVariants.{Frame, Refused}
 
 -- what the maker owes is one
 pub one_made_answer : (d : ℕ) (a b : Answer ℕ) → Makes d a → Makes d b → a ≡ b
@@ -28,13 +25,6 @@ one_made_answer d (gives f) (gives g) p q = ap gives (one_frame d f g p.1 q.1)
 one_made_answer d (gives f) (refused n) p q = absurd (is_true (sym p.0 ∙ q.0))
 one_made_answer d (refused m) (gives g) p q = absurd (is_true (sym q.0 ∙ p.0))
 one_made_answer d (refused m) (refused n) p q = ap refused (p.1 ∙ sym q.1)
-
-answer_one : (r s : Making) → answer r ≡ answer s → r ≡ s
-answer_one = known_by answer (either Frame Refused) back
-  where
-    back : (r : Making) → either Frame Refused (answer r) ≡ r
-    back (Frame a) = refl
-    back (Refused n) = refl
 
 pub one_making : OneMaking
 one_making d m n p q = answer_one m n (one_made_answer d (answer m) (answer n) p q)

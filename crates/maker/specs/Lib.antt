@@ -1,4 +1,4 @@
-pub mod Answers
+pub mod Parts
 pub mod Makes
 pub mod Lists
 pub mod Claims

@@ -2,13 +2,12 @@
 #![tactic(auto)]
 
 ghost use Rattle.std.specs.Prelude.{◌≡◌};
-ghost use Rattle.paper.specs.Answer.{listed};
+ghost use Rattle.paper.specs.Answer.{answer};
 ghost use Rattle.laws.specs.Lent.{◌to◌};
-ghost use Rattle.maker.specs.Answers.{answer};
 ghost use Rattle.maker.specs.Makes.{Makes};
 ghost use Rattle.maker.specs.Lists.{MakesList};
 
-use paper::Listed;
+use paper::Refusal;
 
 mod bytes;
 mod layout;
@@ -16,33 +15,19 @@ mod lists;
 
 pub use bytes::make_bytes;
 
-// What making a frame gives: the frame, or 11.
-#[derive(Clone, Copy)]
-pub enum Making {
-    Frame(u64),
-    Refused(u8),
-}
-
 // The frame of a data word.
-pub fn make(data: u64) -> Making
+pub fn make(data: u64) -> Result<u64, Refusal>
     ensures { Makes «data» (answer result) }
 {
     if layout::DATA_END <= data {
-        return Making::Refused(paper::OUTSIDE);
+        return Err(Refusal::Outside);
     }
-    Making::Frame(layout::frame_of(data))
+    Ok(layout::frame_of(data))
 }
 
 // The frames of a list of data words, at the front of a lent output.
-pub fn make_list(data: &[u64], frames: &mut [u64]) -> Listed
-    ensures { MakesList «data».now (frames.entry to frames.exit) (listed result) }
+pub fn make_list(data: &[u64], frames: &mut [u64]) -> Result<(), Refusal>
+    ensures { MakesList «data».now (frames.entry to frames.exit) (answer result) }
 {
-    if frames.len() < data.len() {
-        return Listed::Refused(paper::UNFIT);
-    }
-    if lists::any_too_large(data) {
-        return Listed::Refused(paper::OUTSIDE);
-    }
-    lists::make_all(data, frames);
-    Listed::Done
+    lists::make_in(data, frames)
 }

@@ -4,8 +4,10 @@
 ghost use Rattle.std.specs.Prelude.{◌≡◌, ◌+◌, ◌*◌, ◌≤◌, ◌<◌, ◌^◌, length, get_or};
 ghost use Rattle.radix.specs.Octets.{joined, numbers_of, eight, stored};
 
+mod form;
 mod place;
 
+pub use form::Form;
 pub use place::{get, put};
 
 fn four(a: u8, b: u8, c: u8, d: u8) -> u64

@@ -1,0 +1,58 @@
+-- Both forms keep their laws.
+-- ┌──────────────┬─────────────────────────────────────────────────────────────────┐
+-- │ bytes_laws   │ lists of bytes do                                               │
+-- │ numbers_laws │ lists of numbers do                                             │
+-- │ short_whole  │ where both have whole eights alone, an output of bytes is       │
+-- │              │ shorter exactly where its numbers are                           │
+-- └──────────────┴─────────────────────────────────────────────────────────────────┘
+use mathlib.Core.Path.{◌≡◌, refl, sym, ap, ◌∙◌, subst}
+use mathlib.Core.List.{List, [], ◌∷◌, ◌++◌}
+use Prim.Native.Nat.{ℕ, zero, suc, ◌/◌, ◌%◌, ◌<◌}
+use native.Mathlib.Omega.{arith}
+use lib.ListN.{length, get_or, set}
+use Rattle.laws.specs.Lent.{◌over◌, short}
+use Rattle.laws.proofs.Truth.{ltb_same}
+use Rattle.laws.proofs.Writing.{over_none, over_length, over_more}
+use Rattle.radix.specs.Octets.{numbers_of, bytes_of, stored}
+use Rattle.radix.proofs.Joined.{numbers_len}
+use Rattle.radix.proofs.Writing.{bytes_more, number_past}
+use Rattle.radix.specs.Forms.{FormLaws, same_numbers, bytes_over, numbers_over, set_number}
+
+many : (o : List ℕ) → length (numbers_of o) ≡ length o / 8
+many o = numbers_len (length o / 8) o 0
+
+none_over : (o : List ℕ) → bytes_of [] over o ≡ o
+unfolding bytes_of
+none_over o = over_none o
+
+pub bytes_laws : FormLaws numbers_of bytes_over stored
+bytes_laws =
+    record {
+      none = none_over;
+      more = λ ys o i x e h. bytes_more ys o x i e (omega (arith, many o));
+      size = λ ys o. many (bytes_of ys over o) ∙ ap (λ (n : ℕ). n / 8) (over_length (bytes_of ys) o) ∙ sym (many o);
+      behind = λ ys o i e h. number_past ys o i e (omega (arith, many o));
+    }
+
+past : (ys o : List ℕ) (i : ℕ) → length ys ≡ i → get_or (ys over o) i 0 ≡ get_or o i 0
+unfolding ◌over◌
+past [] [] i e = refl
+past [] (o ∷ os) i e = refl
+past (y ∷ ys) [] i e = refl
+past (y ∷ ys) (o ∷ os) zero e = absurd (omega (arith, e))
+past (y ∷ ys) (o ∷ os) (suc i) e = past ys os i (omega (arith, e))
+
+pub numbers_laws : FormLaws same_numbers numbers_over set_number
+numbers_laws =
+    record {
+      none = over_none;
+      more = λ ys o i x e h. ap (λ (n : ℕ). set (ys over o) n x) (sym e) ∙ over_more ys o x;
+      size = over_length;
+      behind = λ ys o i e h. past ys o i e;
+    }
+
+pub short_whole : (xs o : List ℕ) → length xs % 8 ≡ 0 → length o % 8 ≡ 0 → short (numbers_of xs) (numbers_of o) ≡ short xs o
+short_whole xs o h k =
+    ltb_same (length (numbers_of o)) (length (numbers_of xs)) (length o) (length xs)
+    (λ l. omega (arith, many xs, many o, h, k))
+    (λ l. omega (arith, many xs, many o, h, k))

@@ -3,7 +3,6 @@
 -- │ is_there      │ what the test of a place says                                  │
 -- │ power         │ n bytes are 8n bits                                            │
 -- │ few           │ n bytes, 8 at most, fit 64 bits                                │
--- │ room          │ room for n from a place on, with no sum that could wrap        │
 -- │ inside_shift  │ what a shift says of the bytes that a number has               │
 -- │ one_byte_more │ the number of one byte more                                    │
 -- │ laid_more     │ one byte more, laid before those that are                      │
@@ -13,11 +12,11 @@
 use mathlib.Core.Path.{◌≡◌, refl, sym, ap, ap₂, ◌∙◌}
 use mathlib.Core.Bool.{Bool, true, false, ◌&&◌}
 use mathlib.Core.List.{List, ◌∷◌, ◌++◌}
-use Prim.Native.Nat.{ℕ, zero, suc, ◌+◌, ◌-◌, ◌*◌, ◌/◌, ◌%◌, ◌^◌, ◌<◌, ◌≤◌}
+use Prim.Native.Nat.{ℕ, zero, suc, ◌+◌, ◌*◌, ◌/◌, ◌%◌, ◌^◌, ◌<◌, ◌≤◌}
 use native.Mathlib.Nat.{pow-suc, pow-le-pow_right, zero-lt-suc, suc-mul, div-div-eq-div-mul, div-eq_of_lt, div-lt_iff_lt-mul}
 use native.Mathlib.Numerals.{add-one}
 use native.Mathlib.Omega.{arith}
-use borrow.Author.Tests.{ltb-true, leb-true, eqb-true, lt-ltb, le-leb, eq-eqb}
+use borrow.Author.Tests.{ltb-true, leb-true, eqb-true, lt-ltb, eq-eqb}
 use lib.Dec.{eqb, leb}
 use lib.Arith.{digits_lt}
 use lib.Pow.{pow-add}
@@ -46,12 +45,6 @@ same : (s t : Bool) → (s ≡ true → t ≡ true) → (t ≡ true → s ≡ tr
 same true t f g = sym (f refl)
 same false true f g = g refl
 same false false f g = refl
-
-pub room : (at n len : ℕ) → n ≤ len → leb at (len - n) ≡ leb (at + n) len
-room at n len h =
-    same (leb at (len - n)) (leb (at + n) len)
-    (λ s. le-leb (at + n) len (omega (arith, leb-true at (len - n) s)))
-    (λ s. le-leb at (len - n) (omega (arith, leb-true (at + n) len s)))
 
 pub inside_shift : (n x : ℕ) → eqb (x / 2 ^ (n * 8)) 0 ≡ inside n x
 inside_shift n x =

@@ -17,10 +17,8 @@ fn gathered(bytes: &[u8], at: usize, n: usize) -> u64
     ensures { result ≡ joined n bytes.now at }
 {
     let mut x: u64 = 0;
-    let mut i = 0;
-    while i < n {
-        x = x * 256 + bytes[at + i] as u64;
-        i += 1;
+    for b in &bytes[at..at + n] {
+        x = x * 256 + u64::from(*b);
     }
     x
 }
@@ -29,20 +27,18 @@ fn gathered(bytes: &[u8], at: usize, n: usize) -> u64
 pub fn get(bytes: &[u8], at: usize, n: usize) -> Result<u64, Refusal>
     ensures { Gets bytes.now at n (answer result) }
 {
-    if !there(at, n, bytes.len()) {
-        return Err(Refusal::Unfit);
+    if there(at, n, bytes.len()) {
+        Ok(gathered(bytes, at, n))
+    } else {
+        Err(Refusal::Unfit)
     }
-    Ok(gathered(bytes, at, n))
 }
 
 fn inside(n: usize, x: u64) -> bool
     requires { n ≤ 8 }
     ensures { result ≡ inside n x }
 {
-    if n == 8 {
-        return true;
-    }
-    x >> (n * 8) == 0
+    n == 8 || x >> (n * 8) == 0
 }
 
 // The lowest bytes of x, as many as `out` has, from its end on.
@@ -50,9 +46,7 @@ fn lay(out: &mut [u8], x: u64)
     ensures { out.new ≡ in_bytes (length out.old) x }
 {
     let mut rest = x;
-    let mut i = out.len();
-    while 0 < i {
-        i -= 1;
+    for i in (0..out.len()).rev() {
         out[i] = (rest % 256) as u8;
         rest /= 256;
     }

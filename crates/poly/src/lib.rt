@@ -23,6 +23,7 @@ pub fn remainder(v: u64) -> u64
     // The leading power, x^(n-1), and g with its leading term there: g(x) x^(k-1). The last step is at g itself.
     let mut lead = 1 << (N - 1);
     let mut g = G << (K - 1);
+    // There is no index to count: g says itself when it is past its own place.
     while G <= g {
         // If the leading coefficient is one, b reaches up to that power: take g away there.
         if lead <= b {

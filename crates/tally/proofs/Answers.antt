@@ -13,28 +13,27 @@
 use mathlib.Core.Path.{◌≡◌, refl, sym, ap, ◌∙◌, subst}
 use mathlib.Core.Bool.{Bool, true, false, cond, not, ◌&&◌, ◌||◌}
 use mathlib.Core.List.{List}
-use Prim.Native.Nat.{ℕ, ◌+◌, ◌≤◌, ◌<◌}
-use borrow.Author.Tests.{eq-eqb, ne_eqb, eqb-true, lt-ltb, le-ltb, ltb-false}
-use lib.Dec.{eqb, ltb}
+use Prim.Native.Nat.{ℕ, ◌+◌, ◌-◌, ◌≤◌, ◌<◌}
+use native.Mathlib.Omega.{arith}
+use borrow.Author.Tests.{eq-eqb, ne_eqb, eqb-true, lt-ltb, le-ltb, ltb-false, leb-true, leb-false}
+use lib.Dec.{eqb, ltb, leb}
 use lib.ListN.{length}
 use Rattle.paper.specs.Numbers.{unfit, outside, past_count, most_counted, unless}
-use Rattle.paper.specs.Answer.{Answer, gives, refused, owed}
-use Rattle.paper.proofs.Answer.{either, known_by, gives_one, never_both}
+use Rattle.std.specs.Prelude.{Result, Ok, Err}
+use Rattle.paper.specs.declared.Refusal.{Refusal}
+use Rattle.paper.specs.declared.Refusal.TheVariants.{Outside, Unfit, PastCount}
+use Rattle.paper.specs.Answer.{Answer, gives, refused, owed, answer}
+use Rattle.paper.proofs.Answer.{gives_one, never_both, answer_one}
 use Rattle.laws.proofs.Truth.{neither}
 use Rattle.tally.specs.Told.{Told, told}
 use Rattle.tally.specs.Ranges.{known, frames_in, in_range}
 use Rattle.tally.specs.Fold.{after}
-use Rattle.tally.specs.Answers.{answer, how_many}
-use Rattle.tally.specs.Calls.{refusal, unequal, Adds, Sums}
+use Rattle.tally.specs.Calls.{overfull, refusal, unequal, Adds, Sums}
 use Rattle.tally.specs.Parts.{Alike, Folds, Past, limited}
 use Rattle.tally.specs.Claims.{OneAnswer, SomeAnswer, OneSum, StaysInRange}
 use Rattle.tally.specs.declared.Tally.{Tally}
-use Rattle.tally.specs.declared.Added.{Added}
-use Rattle.tally.specs.declared.Added.TheVariants.{Next, Refused}
-use Rattle.tally.specs.declared.HowMany.{HowMany}
-use Rattle.tally.specs.declared.HowMany.TheVariants as many
 use Rattle.tally.proofs.Steps.{told_length, counts_each}
-use Rattle.tally.proofs.Ranges.{keeps_range}
+use Rattle.tally.proofs.Ranges.{few_frames, keeps_range}
 
 abbrev pub tests : Bool → Bool → Bool → ℕ
 tests inside told past = cond (not (inside && told)) outside (cond past past_count 0)
@@ -64,18 +63,24 @@ module _ (t : Tally) (vs ps cs : List ℕ) where
       sums : known xs ≡ true → frames_in (after t xs) ≡ frames_in t + length vs
       sums k = counts_each t xs k ∙ ap (λ (n : ℕ). frames_in t + n) (told_length vs ps cs e)
 
-      pub refuse_past : (a : Answer Tally) → most_counted < frames_in t + length vs → Past xs a → Adds t vs ps cs a
+      pub refuse_past : (a : Answer Tally) → leb (length vs) (most_counted - frames_in t) ≡ false → Past xs a → Adds t vs ps cs a
       unfolding Past
-      refuse_past a h p = in_lists a (p ∙ by (known xs) refl)
+      refuse_past a r p = in_lists a (p ∙ by (known xs) refl)
         where
+          h : most_counted < frames_in t + length vs
+          h = omega (arith, leb-false _ _ r, few_frames t f)
+
           by : (b : Bool) → known xs ≡ b → refused (cond b past_count outside) ≡ owed (refusal t xs) (after t xs)
           by true k = simp (f, k, lt-ltb most_counted (frames_in (after t xs)) (subst (λ (n : ℕ). most_counted < n) (sym (sums k)) h))
           by false k = simp (f, k)
 
-      pub accept : (a : Answer Tally) → frames_in t + length vs ≤ most_counted → Folds t xs a → Adds t vs ps cs (limited a)
+      pub accept : (a : Answer Tally) → leb (length vs) (most_counted - frames_in t) ≡ true → Folds t xs a → Adds t vs ps cs (limited a)
       unfolding Folds
-      accept a h p = in_lists (limited a) (ap limited p ∙ by (known xs) refl)
+      accept a r p = in_lists (limited a) (ap limited p ∙ by (known xs) refl)
         where
+          h : frames_in t + length vs ≤ most_counted
+          h = omega (arith, leb-true _ _ r, few_frames t f)
+
           last : (b : Bool) (u : Tally) → cond b (refused past_count) (gives u) ≡ owed (cond b past_count 0) u
           last true u = refl
           last false u = refl
@@ -148,36 +153,27 @@ accepted_alike t u vs ps cs e = by (eqb (length vs) (length ps)) (eqb (length vs
     by true false p q e = absurd (never_both u unfit e)
     by false b p q e = absurd (never_both u unfit e)
 
--- every answer is one of an enum's
-held : (a : Answer Tally) → (r : Added) × (answer r ≡ a)
-held (gives u) = (Next u, refl)
-held (refused n) = (Refused n, refl)
+-- every answer that is owed is one of a result
+held : (a b c d : Bool) (u : Tally) → (r : Result Tally Refusal) × (answer r ≡ owed (cond a unfit (tests b c d)) u)
+held true b c d u = (Err Unfit, refl)
+held false true true true u = (Err PastCount, refl)
+held false true true false u = (Ok u, refl)
+held false true false d u = (Err Outside, refl)
+held false false c d u = (Err Outside, refl)
 
 pub some_answer : SomeAnswer
 unfolding Adds
-some_answer t vs ps cs = held (owed (cond (unequal vs ps cs) unfit (refusal t (told vs ps cs))) (after t (told vs ps cs)))
-
-added_one : (r s : Added) → answer r ≡ answer s → r ≡ s
-added_one = known_by answer (either Next Refused) back
-  where
-    back : (r : Added) → either Next Refused (answer r) ≡ r
-    back (Next a) = refl
-    back (Refused n) = refl
+some_answer t vs ps cs =
+    let xs = told vs ps cs in
+    held (unequal vs ps cs) (in_range t) (known xs) (overfull t xs) (after t xs)
 
 pub one_answer : OneAnswer
 unfolding Adds
-one_answer t vs ps cs r s p q = added_one r s (p ∙ sym q)
-
-sum_one : (r s : HowMany) → how_many r ≡ how_many s → r ≡ s
-sum_one = known_by how_many (either many.Frames many.Refused) back
-  where
-    back : (r : HowMany) → either many.Frames many.Refused (how_many r) ≡ r
-    back (many.Frames a) = refl
-    back (many.Refused n) = refl
+one_answer t vs ps cs r s p q = answer_one r s (p ∙ sym q)
 
 pub one_sum : OneSum
 unfolding Sums
-one_sum t r s p q = sum_one r s (p ∙ sym q)
+one_sum t r s p q = answer_one r s (p ∙ sym q)
 
 pub stays_in_range : StaysInRange
 stays_in_range t u vs ps cs a =

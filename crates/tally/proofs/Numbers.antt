@@ -3,6 +3,7 @@
 -- │ here       │ the count of the verdict itself                                    │
 -- │ absent     │ that of another                                                    │
 -- │ added      │ one to which equals are added                                      │
+-- │ counted    │ one to which a test is added                                       │
 -- │ flagged    │ the pad flag of an accepted frame counts itself                    │
 -- │ ended      │ an accepted frame ends the stretch                                 │
 -- │ passed     │ and leaves the longest one                                         │
@@ -12,12 +13,13 @@
 -- │ unflagged  │ of a refused one as if it had neither flag nor check flips         │
 -- └────────────┴────────────────────────────────────────────────────────────────────┘
 use mathlib.Core.Path.{◌≡◌, refl, sym, ap, ◌∙◌}
-use mathlib.Core.Bool.{Bool, true, cond, ◌&&◌}
+use mathlib.Core.Bool.{Bool, true, false, cond, ◌&&◌}
 use Prim.Native.Nat.{ℕ, ◌+◌, ◌≤◌, ◌<◌, max}
 use native.Mathlib.Nat.{add-zero}
 use native.Mathlib.Omega.{arith}
 use borrow.Author.Tests.{eq-eqb, ne_eqb}
 use lib.Dec.{eqb}
+use Rattle.std.specs.Int.{from_bool}
 use Rattle.tally.specs.Told.{Told}
 use Rattle.tally.specs.Ranges.{accepted, is_flag, is_known}
 use Rattle.tally.specs.Fold.{once, step}
@@ -33,6 +35,13 @@ absent k v n e = sym (add-zero n) ∙ ap (λ (b : Bool). n + once b) (sym (ne_eq
 
 pub added : (n : ℕ) {a b : ℕ} → a ≡ b → n + a ≡ n + b
 added n e = ap (λ (m : ℕ). n + m) e
+
+once_byte : (b : Bool) → from_bool b ≡ once b
+once_byte true = refl
+once_byte false = refl
+
+pub counted : (n : ℕ) {a : ℕ} (b : Bool) → a ≡ from_bool b → n + a ≡ n + once b
+counted n b e = added n (e ∙ once_byte b)
 
 pub flagged : (n v p : ℕ) → v ≤ 2 → is_flag p ≡ true → n + p ≡ n + once (accepted v && eqb p 1)
 flagged n v p h e = added n (flag_number p e ∙ ap (λ (b : Bool). once (b && eqb p 1)) (sym (is_accepted v h)))

@@ -41,20 +41,18 @@
 -- │ ReachesInRange │ any calls from fresh end in a tally in its range               │
 -- │ OutsideIsNew   │ where 11 is then only for what is newly told                   │
 -- └────────────────┴────────────────────────────────────────────────────────────────┘
-use Rattle.std.specs.Prelude.{◌≡◌, true, false, cond, List, [], ◌∷◌, ◌++◌, ℕ, ◌+◌, ◌≤◌, max, length}
+use Rattle.std.specs.Prelude.{◌≡◌, true, false, cond, List, [], ◌∷◌, ◌++◌, ℕ, ◌+◌, ◌≤◌, max, length, Result}
 use Rattle.paper.specs.Numbers.{outside}
-use Rattle.paper.specs.Answer.{gives, refused}
+use Rattle.paper.specs.Answer.{gives, refused, answer}
+use Rattle.paper.specs.declared.Refusal.{Refusal}
 use Rattle.tally.specs.Told.{Told, told}
 use Rattle.tally.specs.Parts.{Alike}
 use Rattle.tally.specs.Ranges.{known, frames_in, in_range}
 use Rattle.tally.specs.Stretches.{all_refused, leading, longest, current, Stretch}
 use Rattle.tally.specs.Counts.{fresh, counts}
 use Rattle.tally.specs.Fold.{after}
-use Rattle.tally.specs.Answers.{answer, how_many}
 use Rattle.tally.specs.Calls.{refusal, Adds, Sums}
 use Rattle.tally.specs.declared.Tally.{Tally}
-use Rattle.tally.specs.declared.Added.{Added}
-use Rattle.tally.specs.declared.HowMany.{HowMany}
 
 pub data Call : Type 0 where
   single : (v p c : ℕ) → Call
@@ -85,13 +83,13 @@ pub data History : Tally → List Call → List Told → Tally → Type 0 where
       → History t (c ∷ cs) xs w
 
 abbrev pub OneAnswer : Type 0
-OneAnswer = (t : Tally) (vs ps cs : List ℕ) (r s : Added) → Adds t vs ps cs (answer r) → Adds t vs ps cs (answer s) → r ≡ s
+OneAnswer = (t : Tally) (vs ps cs : List ℕ) (r s : Result Tally Refusal) → Adds t vs ps cs (answer r) → Adds t vs ps cs (answer s) → r ≡ s
 
 abbrev pub SomeAnswer : Type 0
-SomeAnswer = (t : Tally) (vs ps cs : List ℕ) → (r : Added) × Adds t vs ps cs (answer r)
+SomeAnswer = (t : Tally) (vs ps cs : List ℕ) → (r : Result Tally Refusal) × Adds t vs ps cs (answer r)
 
 abbrev pub OneSum : Type 0
-OneSum = (t : Tally) (r s : HowMany) → Sums t (how_many r) → Sums t (how_many s) → r ≡ s
+OneSum = (t : Tally) (r s : Result ℕ Refusal) → Sums t (answer r) → Sums t (answer s) → r ≡ s
 
 abbrev pub SomeLongest : Type 0
 SomeLongest = (xs : List Told) → (ys zs : List Told) × Stretch xs ys zs × (length ys ≡ longest xs)

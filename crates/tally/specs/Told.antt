@@ -4,11 +4,7 @@
 -- │ told vs ps cs │ of frames one after another, as three lists say it             │
 -- └───────────────┴────────────────────────────────────────────────────────────────┘
 use Rattle.std.specs.Prelude.{List, [], ◌∷◌, ℕ}
-
-pub record Told : Type 0 where
-  pub verdict : ℕ
-  pub pad : ℕ
-  pub checks : ℕ
+pub use Rattle.tally.specs.declared.fold.Told.{Told}
 
 unfoldable pub told : List ℕ → List ℕ → List ℕ → List Told
 told [] ps cs = []

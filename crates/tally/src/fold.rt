@@ -1,43 +1,37 @@
 // The fold: one frame after another, from the tally handed in.
-ghost use Rattle.std.specs.Prelude.{◌≡◌, true, ◌≤◌, ◌<◌, max, eqb, length};
+ghost use Rattle.std.specs.Prelude.{◌≡◌, true, ◌<◌, length};
+ghost use Rattle.paper.specs.Answer.{answer, gives};
 ghost use Rattle.tally.specs.Told.{told};
 ghost use Rattle.tally.specs.Ranges.{is_known};
-ghost use Rattle.tally.specs.Fold.{once, step};
-ghost use Rattle.tally.specs.Answers.{answer};
+ghost use Rattle.tally.specs.Fold.{step};
 ghost use Rattle.tally.specs.Parts.{Alike, Spare, Folds, Past, limited};
 
-use crate::{Added, Tally};
-use paper::{MOST_COUNTED, NO_WORD, RUN_BROKEN};
+use crate::Tally;
+use paper::{MOST_COUNTED, Refusal};
 
-fn known(verdict: u8, pad: u8, checks: u8) -> bool
-    ensures { result ≡ is_known (record { verdict = verdict; pad = pad; checks = checks }) }
-{
-    if pad > 1 {
-        return false;
-    }
-    if verdict <= 2 {
-        return checks <= verdict;
-    }
-    if checks > 0 {
-        return false;
-    }
-    if verdict == NO_WORD {
-        return true;
-    }
-    verdict == RUN_BROKEN
+const NO_WORD: u8 = Refusal::NoWord as u8;
+
+const RUN_BROKEN: u8 = Refusal::RunBroken as u8;
+
+// What a tally is told of one frame: its verdict byte, its pad flag, its check flips.
+#[derive(Clone, Copy, Debug, PartialEq, Eq)]
+struct Told {
+    verdict: u8,
+    pad: u8,
+    checks: u8,
 }
 
-// 1 where two numbers are the same, 0 where not.
-fn same(a: u8, b: u8) -> u64
-    ensures { (result ≡ once (eqb a b)) × (result ≤ 1) }
-{
-    if a == b { 1 } else { 0 }
-}
-
-fn larger(a: u64, b: u64) -> u64
-    ensures { result ≡ max a b }
-{
-    if a < b { b } else { a }
+impl Told {
+    fn is_known(self) -> bool
+        ensures { result ≡ is_known self }
+    {
+        self.pad <= 1
+            && match self.verdict {
+                0..=2 => self.checks <= self.verdict,
+                NO_WORD | RUN_BROKEN => self.checks == 0,
+                _ => false,
+            }
+    }
 }
 
 // A refused frame has no pad flag to count and no check flips, and lengthens the stretch.
@@ -47,95 +41,78 @@ fn step_refused(t: Tally, verdict: u8) -> Tally
 {
     let stretch = t.current + 1;
     Tally {
-        clean: t.clean,
-        one: t.one,
-        two: t.two,
-        no_word: t.no_word + same(verdict, NO_WORD),
-        run_broken: t.run_broken + same(verdict, RUN_BROKEN),
-        pad_wrong: t.pad_wrong,
-        check_flips: t.check_flips,
+        no_word: t.no_word + u64::from(verdict == NO_WORD),
+        run_broken: t.run_broken + u64::from(verdict == RUN_BROKEN),
         current: stretch,
-        longest: larger(t.longest, stretch),
+        longest: t.longest.max(stretch),
+        ..t
     }
 }
 
 // An accepted frame ends the stretch.
-fn step(t: Tally, verdict: u8, pad: u8, checks: u8) -> Tally
-    requires { Spare t 1 × (is_known (record { verdict = verdict; pad = pad; checks = checks }) ≡ true) }
-    ensures { result ≡ step t (record { verdict = verdict; pad = pad; checks = checks }) }
+fn step(t: Tally, x: Told) -> Tally
+    requires { Spare t 1 × (is_known x ≡ true) }
+    ensures { result ≡ step t x }
 {
-    // The usual frame first.
-    if verdict == 0 {
-        return Tally {
+    match x.verdict {
+        0 => Tally {
             clean: t.clean + 1,
-            one: t.one,
-            two: t.two,
-            no_word: t.no_word,
-            run_broken: t.run_broken,
-            pad_wrong: t.pad_wrong + pad as u64,
-            check_flips: t.check_flips,
+            pad_wrong: t.pad_wrong + u64::from(x.pad),
             current: 0,
-            longest: t.longest,
-        };
-    }
-    if verdict < 3 {
-        return Tally {
-            clean: t.clean,
-            one: t.one + same(verdict, 1),
-            two: t.two + same(verdict, 2),
-            no_word: t.no_word,
-            run_broken: t.run_broken,
-            pad_wrong: t.pad_wrong + pad as u64,
-            check_flips: t.check_flips + checks as u64,
+            ..t
+        },
+        1 | 2 => Tally {
+            one: t.one + u64::from(x.verdict == 1),
+            two: t.two + u64::from(x.verdict == 2),
+            pad_wrong: t.pad_wrong + u64::from(x.pad),
+            check_flips: t.check_flips + u64::from(x.checks),
             current: 0,
-            longest: t.longest,
-        };
+            ..t
+        },
+        _ => step_refused(t, x.verdict),
     }
-    step_refused(t, verdict)
 }
 
 // The tally with lists of equal lengths added, or 11 where they hold what is not known.
-pub(crate) fn folded(t: Tally, verdicts: &[u8], pads: &[u8], checks: &[u8]) -> Added
+pub(crate) fn folded(
+    t: Tally,
+    verdicts: &[u8],
+    pads: &[u8],
+    checks: &[u8],
+) -> Result<Tally, Refusal>
     requires { Alike verdicts.now pads.now checks.now × Spare t (length verdicts.now) }
     ensures { Folds t (told verdicts.now pads.now checks.now) (answer result) }
 {
     let mut u = t;
-    let mut i = 0;
-    while i < verdicts.len() {
-        let verdict = verdicts[i];
-        let pad = pads[i];
-        let flips = checks[i];
-        if !known(verdict, pad, flips) {
-            return Added::Refused(paper::OUTSIDE);
+    for ((verdict, pad), flips) in verdicts.iter().zip(pads).zip(checks) {
+        let x = Told {
+            verdict: *verdict,
+            pad: *pad,
+            checks: *flips,
+        };
+        if !x.is_known() {
+            return Err(Refusal::Outside);
         }
-        u = step(u, verdict, pad, flips);
-        i += 1;
+        u = step(u, x);
     }
-    Added::Next(u)
+    Ok(u)
 }
 
 // The total of check flips is known only now: 20 where it is past its limit.
-pub(crate) fn limited(a: Added) -> Added
-    ensures { answer result ≡ limited (answer a) }
+pub(crate) fn limited(t: Tally) -> Result<Tally, Refusal>
+    ensures { answer result ≡ limited (gives t) }
 {
-    match a {
-        Added::Next(u) => {
-            if u.check_flips > MOST_COUNTED {
-                return Added::Refused(paper::PAST_COUNT);
-            }
-            Added::Next(u)
-        }
-        Added::Refused(n) => Added::Refused(n),
+    if t.check_flips > MOST_COUNTED {
+        return Err(Refusal::PastCount);
     }
+    Ok(t)
 }
 
 // Lists for which there is no room: 11 as for any, else 20. From fresh no count of theirs wraps.
-pub(crate) fn past(verdicts: &[u8], pads: &[u8], checks: &[u8]) -> Added
+pub(crate) fn past(verdicts: &[u8], pads: &[u8], checks: &[u8]) -> Result<Tally, Refusal>
     requires { Alike verdicts.now pads.now checks.now }
     ensures { Past (told verdicts.now pads.now checks.now) (answer result) }
 {
-    match folded(Tally::fresh(), verdicts, pads, checks) {
-        Added::Next(_) => Added::Refused(paper::PAST_COUNT),
-        Added::Refused(n) => Added::Refused(n),
-    }
+    folded(Tally::fresh(), verdicts, pads, checks)?;
+    Err(Refusal::PastCount)
 }

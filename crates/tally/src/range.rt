@@ -1,5 +1,5 @@
 // The range of a tally, and its frames.
-ghost use Rattle.std.specs.Prelude.{◌≡◌, ◌&&◌, ◌-◌, ◌≤◌, leb};
+ghost use Rattle.std.specs.Prelude.{◌≡◌, ◌&&◌, ◌-◌, ◌^◌, ◌≤◌, ◌<◌, leb};
 ghost use Rattle.paper.specs.Numbers.{most_counted};
 ghost use Rattle.tally.specs.Ranges.{refused_count, frames_in, in_range};
 
@@ -10,49 +10,27 @@ fn stretches_in_range(t: Tally) -> bool
     requires { frames_in t ≤ most_counted }
     ensures { result ≡ leb t.current t.longest && leb t.longest (refused_count t) }
 {
-    if t.current > t.longest {
-        return false;
-    }
-    t.longest <= t.no_word + t.run_broken
+    t.current <= t.longest && t.longest <= t.no_word + t.run_broken
 }
 
 // Each count is tested before the sum, which then fits.
 pub(crate) fn in_range(t: Tally) -> bool
     ensures { result ≡ in_range t }
 {
-    if t.clean > MOST_COUNTED {
-        return false;
-    }
-    if t.one > MOST_COUNTED {
-        return false;
-    }
-    if t.two > MOST_COUNTED {
-        return false;
-    }
-    if t.no_word > MOST_COUNTED {
-        return false;
-    }
-    if t.run_broken > MOST_COUNTED {
-        return false;
-    }
-    let accepted = t.clean + t.one + t.two;
-    if accepted + t.no_word + t.run_broken > MOST_COUNTED {
-        return false;
-    }
-    if t.pad_wrong > accepted {
-        return false;
-    }
-    if t.check_flips > t.one + 2 * t.two {
-        return false;
-    }
-    if t.check_flips > MOST_COUNTED {
-        return false;
-    }
-    stretches_in_range(t)
+    t.clean <= MOST_COUNTED
+        && t.one <= MOST_COUNTED
+        && t.two <= MOST_COUNTED
+        && t.no_word <= MOST_COUNTED
+        && t.run_broken <= MOST_COUNTED
+        && frames_in(t) <= MOST_COUNTED
+        && t.pad_wrong <= t.clean + t.one + t.two
+        && t.check_flips <= t.one + 2 * t.two
+        && t.check_flips <= MOST_COUNTED
+        && stretches_in_range(t)
 }
 
 pub(crate) fn frames_in(t: Tally) -> u64
-    requires { frames_in t ≤ most_counted }
+    requires { frames_in t < 2 ^ 64 }
     ensures { result ≡ frames_in t }
 {
     t.clean + t.one + t.two + t.no_word + t.run_broken

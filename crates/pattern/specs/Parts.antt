@@ -2,7 +2,6 @@
 -- ┌────────────────────┬─────────────────────────────────────────────────────────────┐
 -- │ Advances p r b q a │ the register r is q after the buffer b is filled, which     │
 -- │                    │ is a then                                                   │
--- │ Taps l t           │ a byte reaches no tap of its own, and shifts stay in a word │
 -- │ Entering l c n k   │ there is room for the k bits of n                           │
 -- │ Comparing l c n k  │ the register is full, and n is k bits                       │
 -- │ compared c n       │ the bits compared after n bytes more                        │
@@ -19,11 +18,6 @@ use Rattle.pattern.specs.declared.counter.Counter.{Counter}
 pub record Advances (p r : ℕ) (before : List ℕ) (q : ℕ) (after : List ℕ) : Type 0 where
   pub register : q ≡ onward p (second_tap p) (8 * length before) r
   pub buffer : after ≡ bytes p (second_tap p) (length before) r
-
-pub record Taps (l t : ℕ) : Type 0 where
-  pub byte : 8 ≤ t
-  pub apart : t < l
-  pub word : l < 32
 
 pub record Entering (l : ℕ) (c : Counter) (n k : ℕ) : Type 0 where
   pub word : l < 32

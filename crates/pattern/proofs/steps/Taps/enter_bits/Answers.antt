@@ -5,12 +5,12 @@ use native.Mathlib.Omega.{arith}
 use lib.Pow.{shl_exact}
 use Rattle.pattern.specs.Counting.{count_of, holding}
 use Rattle.sequence.proofs.Whole.{fed_entering_by}
-use Rattle.pattern.proofs.counter.enter_bits.Goals as goal
+use Rattle.pattern.proofs.steps.Taps.enter_bits.Goals as goal
 
 pub returns : goal.returns
-returns c =
+returns g c =
     let a = c.args in
     let s = a.c in
     ap (λ (x : ℕ). record { pattern = s.pattern; filled = s.filled + a.k; register = x + a.n; bits = s.bits; errors = s.errors })
     (shl_exact {a = s.register} s.filled a.k 64 c.requires.register (omega arith))
-    ∙ ap (holding s.pattern) (sym (fed_entering_by a.l a.t (count_of s) a.n a.k c.requires.places c.requires.bits))
+    ∙ ap (holding s.pattern) (sym (fed_entering_by g.row.L g.row.T (count_of s) a.n a.k c.requires.places c.requires.bits))

@@ -10,7 +10,7 @@ ghost use Rattle.pattern.specs.Calls.{Opens, Feeds};
 ghost use Rattle.pattern.specs.Parts.{Entering, Comparing, compared, piece_refusal};
 
 use crate::range::known;
-use crate::steps::Taps;
+use crate::steps::{Run, Taps};
 use paper::{MOST_BYTES, MOST_COUNTED, Refusal};
 
 // The pattern's number is its length. The bits that came, up to that many, stand low in the register, the oldest highest.
@@ -24,49 +24,62 @@ pub struct Counter {
 }
 
 impl<const L: u64, const T: u64> Taps<L, T> {
-    // The counter with the k bits of n entered in its register.
-    fn enter_bits(self, c: Counter, n: u64, k: u64) -> Counter
-        requires { Entering L c n k }
-        ensures { result ≡ fed_on L T c (highest k n) }
+    // The counter with the run entered in its register.
+    fn enter(self, c: Counter, run: Run) -> Counter
+        requires { Entering L c run.len }
+        ensures { result ≡ fed_on L T c (highest run.len run.bits) }
     {
         Counter {
-            filled: c.filled + k,
-            register: (c.register << k) + n,
+            filled: c.filled + run.len,
+            register: (c.register << run.len) + run.bits,
             ..c
         }
     }
 
-    // The full counter with the k bits of n compared.
-    fn compare_bits(self, c: Counter, n: u64, k: u64) -> Counter
-        requires { Comparing L c n k }
-        ensures { result ≡ fed_on L T c (highest k n) }
+    // The full counter with the run compared.
+    fn compare(self, c: Counter, run: Run) -> Counter
+        requires { Comparing L c }
+        ensures { result ≡ fed_on L T c (highest run.len run.bits) }
     {
-        let next = self.ahead(c.register, k);
-        let wrong = u64::from((next ^ n).count_ones());
-        let register = self.moved(c.register, k, next);
+        let next = self.ahead(c.register, run.len);
+        let wrong = u64::from((next.bits ^ run.bits).count_ones());
+        let register = self.moved(c.register, next);
         Counter {
             register,
-            bits: c.bits + k,
+            bits: c.bits + run.len,
             errors: c.errors + wrong,
             ..c
         }
     }
 
     // A byte goes whole into the register, or is whole compared, or fills the last places and is compared with what is left of it.
-    fn feed_byte(self, c: Counter, x: u64) -> Counter
-        requires { Steady L (count_of c) × (c.bits < 2 ^ 54) × (x < 256) }
-        ensures { result ≡ fed_on L T c (highest 8 x) }
+    fn feed_byte(self, c: Counter, byte: u8) -> Counter
+        requires { Steady L (count_of c) × (c.bits < 2 ^ 54) }
+        ensures { result ≡ fed_on L T c (highest 8 byte) }
     {
         let room = L - c.filled;
+        let x = u64::from(byte);
         if room == 0 {
-            return self.compare_bits(c, x, 8);
+            return self.compare(c, Run { bits: x, len: 8 });
         }
         if room >= 8 {
-            return self.enter_bits(c, x, 8);
+            return self.enter(c, Run { bits: x, len: 8 });
         }
         let left = 8 - room;
-        let full = self.enter_bits(c, x >> left, room);
-        self.compare_bits(full, x % (1 << left), left)
+        let full = self.enter(
+            c,
+            Run {
+                bits: x >> left,
+                len: room,
+            },
+        );
+        self.compare(
+            full,
+            Run {
+                bits: x % (1 << left),
+                len: left,
+            },
+        )
     }
 
     fn feed_bytes(self, c: Counter, piece: &[u8]) -> Counter
@@ -75,7 +88,7 @@ impl<const L: u64, const T: u64> Taps<L, T> {
     {
         let mut d = c;
         for x in piece {
-            d = self.feed_byte(d, u64::from(*x));
+            d = self.feed_byte(d, *x);
         }
         d
     }

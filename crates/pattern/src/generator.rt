@@ -25,8 +25,8 @@ impl<const L: u64, const T: u64> Taps<L, T> {
         let mut q = r;
         for x in out.iter_mut() {
             let byte = self.ahead(q, 8);
-            *x = byte as u8;
-            q = self.moved(q, 8, byte);
+            *x = byte.bits as u8;
+            q = self.moved(q, byte);
         }
         q
     }

@@ -12,20 +12,32 @@ pub(crate) struct Taps<const L: u64, const T: u64> {
     ghost word: { L < 32 },
 }
 
+// A run of bits, at most a byte of them, as a number: the first highest.
+#[derive(Clone, Copy, Debug, PartialEq, Eq)]
+pub(crate) struct Run {
+    pub(crate) bits: u64,
+    pub(crate) len: u64,
+    ghost byte: { len ≤ 8 },
+    ghost fits: { bits < 2 ^ len },
+}
+
 impl<const L: u64, const T: u64> Taps<L, T> {
-    // The next k bits as a number. None of them is a tap of another, so one exclusive-or gives them all.
-    pub(crate) fn ahead(self, r: u64, k: u64) -> u64
+    // The next k bits. None of them is a tap of another, so one exclusive-or gives them all.
+    pub(crate) fn ahead(self, r: u64, k: u64) -> Run
         requires { (r < 2 ^ L) × (k ≤ 8) }
-        ensures { (result ≡ number (next_bits L T k r)) × (result < 2 ^ k) }
+        ensures { (result.len ≡ k) × (result.bits ≡ number (next_bits L T k r)) }
     {
-        ((r ^ (r << (L - T))) >> (L - k)) % (1 << k)
+        Run {
+            bits: ((r ^ (r << (L - T))) >> (L - k)) % (1 << k),
+            len: k,
+        }
     }
 
-    // The register k bits on, where n is those bits.
-    pub(crate) fn moved(self, r: u64, k: u64, n: u64) -> u64
-        requires { (r < 2 ^ L) × (k ≤ 8) × (n ≡ number (next_bits L T k r)) × (n < 2 ^ k) }
-        ensures { (result ≡ onward L T k r) × (result < 2 ^ L) }
+    // The register after the run, which is of the bits that come next.
+    pub(crate) fn moved(self, r: u64, run: Run) -> u64
+        requires { (r < 2 ^ L) × (run.bits ≡ number (next_bits L T run.len r)) }
+        ensures { (result ≡ onward L T run.len r) × (result < 2 ^ L) }
     {
-        ((r << k) + n) % (1 << L)
+        ((r << run.len) + run.bits) % (1 << L)
     }
 }

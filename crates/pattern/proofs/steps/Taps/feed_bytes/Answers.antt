@@ -35,7 +35,7 @@ loop-x-preserved g c =
     let T = g.row.T in
     let d = o.d in
     let x = get_or a.piece.now o.x-index 0 in
-    let e : c.feed_byte-d.result ≡ fed_on L T d (highest 8 x) = c.feed_byte-d.ensures ∙ ap (λ (n : ℕ). fed_on L T d (highest 8 n)) c.from.ensures in
+    let e = c.feed_byte-d.ensures in
     let s = o.invariant.1 in
     let n = bits_fed L T (highest 8 x) (count_of d) s.places in (
       ap (λ (k : Counter). fed_on L T k (bits_of (drop (o.x-index + 1) a.piece.now))) e

@@ -19,9 +19,9 @@ loop-x-preserved g c =
     let L = g.row.L in
     let T = g.row.T in
     let b = c.ahead-byte in
-    let v : b.result ≡ number (next_bits L T 8 (onward L T (8 * o.x-index) a.r)) = b.ensures.0 ∙ ap (λ (q : ℕ). number (next_bits L T 8 q)) o.invariant.1 in (
+    let v : b.result.bits ≡ number (next_bits L T 8 (onward L T (8 * o.x-index) a.r)) = b.ensures.1 ∙ ap (λ (q : ℕ). number (next_bits L T 8 q)) o.invariant.1 in (
       ap₂ (λ (l : List ℕ) (x : ℕ). set l o.x-index x) o.invariant.0 v ∙ upto_more L T a.r a.out.now o.x-index (omega arith),
-      c.moved-q.ensures.0 ∙ ap (onward L T 8) o.invariant.1 ∙ onward_byte L T o.x-index a.r,
+      c.moved-q.ensures.0 ∙ ap₂ (onward L T) b.ensures.0 o.invariant.1 ∙ onward_byte L T o.x-index a.r,
       c.moved-q.ensures.1,
     )
 

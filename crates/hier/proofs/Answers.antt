@@ -16,17 +16,15 @@ use native.Mathlib.Nat.{mod-lt}
 use native.Mathlib.Omega.{arith}
 use borrow.Author.Tests.{eqb-true, eqb-false, ltb-true, ltb-false}
 use lib.Dec.{ltb, eqb, lit<}
+use Rattle.std.specs.Prelude.{Result, Ok, Err}
 use Rattle.paper.specs.Numbers.{no_block, eighth}
 use Rattle.paper.specs.Answer.{refused}
-use Rattle.paper.proofs.Answer.{either, known_by}
+use Rattle.paper.specs.declared.Refusal.{Refusal}
+use Rattle.paper.specs.declared.Refusal.TheVariants.{NoBlock, Eighth}
+use Rattle.paper.proofs.Answer.{answer_one}
 use Rattle.laws.proofs.Xor.{bit-lt}
-use Rattle.hier.specs.declared.Coded.{Coded}
-use Rattle.hier.specs.declared.Coded.TheVariants.{Block, Refused as Uncoded}
 use Rattle.hier.specs.declared.Decoded.{Decoded}
-use Rattle.hier.specs.declared.Reading.{Reading}
-use Rattle.hier.specs.declared.Reading.TheVariants.{Word, Refused as Unread}
 use Rattle.block.specs.Blocks.{Lawful, block_of, code_of, flips, Near}
-use Rattle.hier.specs.Answers.{coded}
 use Rattle.hier.specs.Calls.{ReadAs, NothingNear, EighthNear, Owed, Reads}
 use Rattle.hier.specs.Claims.{OneMake, SomeRead, OneRead}
 use Rattle.block.specs.Parts.{choice, near₀, near₁, near₂, near₃, total, sides}
@@ -65,14 +63,14 @@ pub eighth_near : (b v : ℕ) → v ≡ 8 → total b v ≤ 2 → Owed b (refuse
 eighth_near b v e few =
     inr (refl, record { c = sides b 8; c_lt = sides_lt b 8; near = (found b 8 (lit< tt) (subst (λ (n : ℕ). total b n ≤ 2) e few)).0 })
 
-abbrev pub answer_of : ℕ → Reading
-answer_of b = cond (ltb 2 (total b (choice b))) (Unread no_block) (cond (eqb (choice b) 8) (Unread eighth) (Word (decoded b (choice b))))
+abbrev pub answer_of : ℕ → Result Decoded Refusal
+answer_of b = cond (ltb 2 (total b (choice b))) (Err NoBlock) (cond (eqb (choice b) 8) (Err Eighth) (Ok (decoded b (choice b))))
 
 pub reads_at : (b : ℕ) → Reads b (answer_of b)
 reads_at b = by (ltb 2 (total b (choice b))) (eqb (choice b) 8) refl refl
   where
     by : (s t : Bool) → ltb 2 (total b (choice b)) ≡ s → eqb (choice b) 8 ≡ t
-        → Reads b (cond s (Unread no_block) (cond t (Unread eighth) (Word (decoded b (choice b)))))
+        → Reads b (cond s (Err NoBlock) (cond t (Err Eighth) (Ok (decoded b (choice b)))))
     by true t x y = none b (ltb-true 2 (total b (choice b)) x)
     by false true x y = eighth_near b (choice b) (eqb-true (choice b) 8 y) (ltb-false 2 (total b (choice b)) x)
     by false false x y =
@@ -111,17 +109,10 @@ pub some_read : SomeRead
 some_read b = (answer_of b, reads_at b)
 
 pub one_read : OneRead
-one_read b (Word v) (Word w) x y = ap Word (same_word x y)
-one_read b (Word v) (Unread n) x y = absurd (read_or_refused x y)
-one_read b (Unread n) (Word w) x y = absurd (read_or_refused y x)
-one_read b (Unread m) (Unread n) x y = ap Unread (same_refusal x y)
-
-one_coded : (r s : Coded) → coded r ≡ coded s → r ≡ s
-one_coded = known_by coded (either Block Uncoded) back
-  where
-    back : (r : Coded) → either Block Uncoded (coded r) ≡ r
-    back (Block a) = refl
-    back (Uncoded n) = refl
+one_read b (Ok v) (Ok w) x y = ap Ok (same_word x y)
+one_read b (Ok v) (Err n) x y = absurd (read_or_refused x y)
+one_read b (Err n) (Ok w) x y = absurd (read_or_refused y x)
+one_read b (Err m) (Err n) x y = answer_one (Err m) (Err n) (ap refused (same_refusal x y))
 
 pub one_make : OneMake
-one_make d r s p q = one_coded r s (p ∙ sym q)
+one_make d r s p q = answer_one r s (p ∙ sym q)

@@ -9,7 +9,7 @@ use Prim.Native.Nat.{ℕ, ◌+◌}
 use native.Mathlib.Omega.{arith}
 use borrow.Author.Tests.{eq-eqb, ltb-true}
 use lib.Dec.{ltb}
-use Rattle.hier.specs.declared.Reading.TheVariants.{Word}
+use Rattle.std.specs.Prelude.{Ok}
 use Rattle.laws.specs.Bits.{bit, unlike}
 use Rattle.block.specs.Symbols.{gap}
 use Rattle.block.specs.Blocks.{symbol, code_of, flips, Near}
@@ -20,7 +20,7 @@ use Rattle.hier.proofs.Answers.{one_read}
 pub mends : Mends
 mends d l b r m n x =
     let a = passed 10 (ltb d 128) (code_of d) l m in
-    one_read b r (Word (record { «data» = d; flips = flips b l })) x
+    one_read b r (Ok (record { «data» = d; flips = flips b l })) x
     (record {
       below = ltb-true d 128 a.0;
       near = subst (Near b) a.1 n;
@@ -44,4 +44,4 @@ near_self : (b : ℕ) → Near b b
 near_self b = record { one = λ i h. omega (arith, gap_self (symbol b i)); two = omega (arith, flips_self b) }
 
 pub round_trip : RoundTrip
-round_trip d l r m x = mends d l l r m (near_self l) x ∙ ap (λ (n : ℕ). Word (record { «data» = d; flips = n })) (flips_self l)
+round_trip d l r m x = mends d l l r m (near_self l) x ∙ ap (λ (n : ℕ). Ok (record { «data» = d; flips = n })) (flips_self l)

@@ -9,20 +9,18 @@
 -- │              │ is near, with 16 where what is near has v = 8                    │
 -- │ Reads        │ `read`                                                           │
 -- └──────────────┴──────────────────────────────────────────────────────────────────┘
-use Rattle.std.specs.Prelude.{◌≡◌, ◌⊎◌, ℕ, ◌<◌, ltb}
+use Rattle.std.specs.Prelude.{◌≡◌, ◌⊎◌, ℕ, ◌<◌, ltb, Result}
 use Rattle.paper.specs.Numbers.{outside, no_block, eighth, unless}
-use Rattle.paper.specs.Answer.{Answer, gives, refused, owed}
-use Rattle.hier.specs.declared.Coded.{Coded}
+use Rattle.paper.specs.Answer.{Answer, gives, refused, owed, answer}
+use Rattle.paper.specs.declared.Refusal.{Refusal}
 use Rattle.hier.specs.declared.Decoded.{Decoded}
-use Rattle.hier.specs.declared.Reading.{Reading}
 use Rattle.block.specs.Blocks.{Lawful, block_of, code_of, flips, Near}
-use Rattle.hier.specs.Answers.{coded, reading}
 
 abbrev pub data_end : ℕ
 data_end = 128
 
-abbrev pub Makes : ℕ → Coded → Type 0
-Makes d r = coded r ≡ owed (unless outside (ltb d data_end)) (code_of d)
+abbrev pub Makes : ℕ → Result ℕ Refusal → Type 0
+Makes d r = answer r ≡ owed (unless outside (ltb d data_end)) (code_of d)
 
 pub record ReadAs (b : ℕ) (w : Decoded) : Type 0 where
   pub below : w.data < data_end
@@ -41,5 +39,5 @@ abbrev pub Owed : ℕ → Answer Decoded → Type 0
 Owed b (gives w) = ReadAs b w
 Owed b (refused n) = ((n ≡ no_block) × NothingNear b) ⊎ ((n ≡ eighth) × EighthNear b)
 
-abbrev pub Reads : ℕ → Reading → Type 0
-Reads b r = Owed b (reading r)
+abbrev pub Reads : ℕ → Result Decoded Refusal → Type 0
+Reads b r = Owed b (answer r)

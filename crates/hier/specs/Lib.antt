@@ -1,4 +1,2 @@
-pub mod Answers
 pub mod Calls
-pub mod Parts
 pub mod Claims

@@ -8,27 +8,16 @@ ghost use Rattle.hier.specs.Calls.{data_end, Makes, Reads};
 mod found;
 mod symbols;
 
+use found::Nears;
+use paper::Refusal;
 use symbols::symbol_of;
 
-// The block of the data.
-#[derive(Clone, Copy)]
-pub enum Coded {
-    Block(u16),
-    Refused(u8),
-}
-
-#[derive(Clone, Copy)]
+// What stands in sixteen bits.
+#[derive(Clone, Copy, Debug, PartialEq, Eq)]
 pub struct Decoded {
     pub data: u8,
     // bits
     pub flips: u8,
-}
-
-// What stands in sixteen bits.
-#[derive(Clone, Copy)]
-pub enum Reading {
-    Word(Decoded),
-    Refused(u8),
 }
 
 // Data is a number below it.
@@ -50,30 +39,30 @@ fn block_of(d: u16) -> u16
 }
 
 // Codes data below 128.
-pub fn make(data: u8) -> Coded
+pub fn make(data: u8) -> Result<u16, Refusal>
     ensures { Makes «data» result }
 {
     if DATA_END <= data {
-        return Coded::Refused(paper::OUTSIDE);
+        return Err(Refusal::Outside);
     }
-    Coded::Block(block_of(data as u16))
+    Ok(block_of(u16::from(data)))
 }
 
 // Reads any sixteen bits.
-pub fn read(block: u16) -> Reading
+pub fn read(block: u16) -> Result<Decoded, Refusal>
     ensures { Reads block result }
 {
     let v = found::chosen(block);
-    let n = found::near_each(v, block);
-    let flips = found::flips_in(n);
+    let n = Nears::of(v, block);
+    let flips = n.flips();
     if 2 < flips {
-        return Reading::Refused(paper::NO_BLOCK);
+        return Err(Refusal::NoBlock);
     }
     if v == 8 {
-        return Reading::Refused(paper::EIGHTH);
+        return Err(Refusal::Eighth);
     }
-    Reading::Word(Decoded {
-        data: (v * 16 + found::sides_in(n)) as u8,
+    Ok(Decoded {
+        data: (v * 16 + n.sides()) as u8,
         flips: flips as u8,
     })
 }

@@ -1,7 +1,7 @@
 // Symbols: the tables of their pairs, of their subsets and of what is near.
 ghost use Rattle.std.specs.Prelude.{◌≡◌, ◌<◌, ◌≤◌};
 ghost use Rattle.block.specs.Symbols.{member};
-ghost use Rattle.block.specs.Parts.{near_of, kind_of, Pairs, Kinds, NearRows};
+ghost use Rattle.block.specs.Parts.{near_of, kind_of};
 
 // The pairs of subsets 0, 1 and 2.
 const MEMBERS: [u16; 6] = [0b0011, 0b1100, 0b0101, 0b1010, 0b0110, 0b1001];
@@ -16,48 +16,24 @@ const NEAR: [u64; 3] = [
     0x6236_3613_2062_6236,
 ];
 
-fn pairs() -> [u16; 6]
-    ensures { Pairs result }
-{
-    MEMBERS
-}
-
-fn kinds() -> [u16; 16]
-    ensures { Kinds result }
-{
-    KINDS
-}
-
-fn rows() -> [u64; 3]
-    ensures { NearRows result }
-{
-    NEAR
-}
-
 pub(crate) fn symbol_of(subset: u16, c: u16) -> u16
     requires { (subset < 3) × (c < 2) }
     ensures { (result ≡ member subset c) × (result < 16) }
 {
-    let i = (2 * subset + c) as usize;
-    let table = pairs();
-    table[i]
+    MEMBERS[usize::from(2 * subset + c)]
 }
 
 pub(crate) fn kind(x: u16) -> u16
     requires { x < 16 }
     ensures { (result ≡ kind_of x) × (result ≤ 3) }
 {
-    let i = x as usize;
-    let table = kinds();
-    table[i]
+    KINDS[usize::from(x)]
 }
 
 pub(crate) fn nearest(subset: u16, x: u16) -> u16
     requires { (subset < 3) × (x < 16) }
     ensures { (result ≡ near_of subset x) × (result < 7) }
 {
-    let i = subset as usize;
-    let table = rows();
-    let row = table[i];
+    let row = NEAR[usize::from(subset)];
     ((row >> (4 * x)) % 16) as u16
 }

@@ -25,7 +25,7 @@ use Rattle.pattern.specs.Counting.{count_of, in_range, fed_piece}
 use Rattle.pattern.specs.Calls.{feed_refusal, feed_answer}
 use Rattle.pattern.specs.Parts.{compared, piece_refusal}
 use Rattle.pattern.specs.declared.counter.Counter.{Counter}
-use Rattle.pattern.proofs.Tests.{past, refused_alike, passed, refuses}
+use Rattle.pattern.proofs.Tests.{past, refused_alike, passed, refusal_owed, refuses}
 use Rattle.sequence.proofs.Digits.{length-bits, bits-bits}
 use Rattle.sequence.proofs.Taps.{taps}
 use Rattle.sequence.proofs.Fed.{bits_fed}
@@ -47,11 +47,12 @@ module _ (c : Counter) (piece : List ℕ) where
       bits_fed c.pattern (second_tap c.pattern) (bits_of piece) (count_of c) (sound c inside).places
       ∙ ap (λ (m : ℕ). c.bits + (m - (c.pattern - c.filled))) (length-bits piece)
 
-  pub refused_by : (m : ℕ) → m ≡ piece_refusal c n → (m ≡ 0 → ⊥) → refused m ≡ feed_answer c piece
-  refused_by m e h =
+  pub refused_by : (m : ℕ) → refused m ≡ owed (piece_refusal c n) (tt {0}) → refused m ≡ feed_answer c piece
+  refused_by m e =
+      let r = refusal_owed m (piece_refusal c n) (tt {0}) e in
       refuses m (feed_refusal c piece) (fed_piece c piece)
       (refused_alike unfit outside past_count m (ltb most_bytes n) (in_range c) (ltb most_counted (compared c n)) (passes_count c piece)
-      (cond (is_zero_filled c piece) all_zero 0) (λ inside. ap (ltb most_counted) (sym (compared_is inside))) e h) h
+      (cond (is_zero_filled c piece) all_zero 0) (λ inside. ap (ltb most_counted) (sym (compared_is inside))) r.0 r.1) r.1
 
   -- where nothing speaks against the piece
   module _ (free : piece_refusal c n ≡ 0) where

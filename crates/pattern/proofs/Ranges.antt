@@ -3,23 +3,14 @@
 -- │ registered_pattern │ its pattern is one                            │
 -- │ registered_lt      │ it is below 2 to its length                   │
 -- │ registered_at      │ the same, at a number that equals the pattern │
--- │ allowed            │ where nothing does, what the tests said       │
 -- └────────────────────┴───────────────────────────────────────────────┘
-use mathlib.Core.Path.{◌≡◌, refl, sym, subst}
-use mathlib.Core.Bool.{true, false}
+use mathlib.Core.Path.{◌≡◌, subst}
+use mathlib.Core.Bool.{true}
 use Prim.Native.Nat.{ℕ, ◌^◌, ◌<◌}
-use native.Mathlib.Omega.{arith}
-use lib.Dec.{T, ltb, eqb, ltb→lt}
-use Rattle.paper.specs.Numbers.{unfit, outside, all_zero, most_bytes}
+use lib.Dec.{T, ltb, ltb→lt}
 use Rattle.laws.proofs.Truth.{and_l, and_r, is_true}
 use Rattle.sequence.specs.Patterns.{pattern}
 use Rattle.pattern.specs.Generation.{registered}
-use Rattle.pattern.specs.Calls.{fill_refusal}
-use Rattle.pattern.proofs.Tests.{passed}
-
-pub allowed : (p r n : ℕ) → fill_refusal p r n ≡ 0 → (ltb most_bytes n ≡ false) × (registered p r ≡ true) × (eqb r 0 ≡ false)
-allowed p r n e =
-    passed unfit outside all_zero 0 (ltb most_bytes n) (registered p r) (eqb r 0) (omega arith) (omega arith) (omega arith) (sym e) refl
 
 module _ (p r : ℕ) (e : registered p r ≡ true) where
   pub registered_pattern : T (pattern p)

@@ -2,13 +2,12 @@
 -- ┌────────────────────┬───────────────────────────────────────────────┐
 -- │ Sound c            │ the range of a counter as facts               │
 -- │ sound, is_in_range │ the test `counted` and the facts say the same │
--- │ parts              │ the test `counted` as the code has it         │
 -- │ steady             │ what a sound counter's steps ask              │
 -- └────────────────────┴───────────────────────────────────────────────┘
 use mathlib.Core.Path.{◌≡◌, ap}
-use mathlib.Core.Bool.{true, not, ◌&&◌, ◌||◌}
+use mathlib.Core.Bool.{true, not}
 use Prim.Native.Nat.{◌^◌, ◌≤◌, ◌<◌}
-use lib.Dec.{T, eqb, leb, ltb}
+use lib.Dec.{T, eqb}
 use borrow.Author.Tests.{le-leb, lt-ltb, eq-eqb, ne_eqb, leb-true, ltb-true, eqb-true, eqb-false}
 use Rattle.paper.specs.Numbers.{most_counted}
 use Rattle.sequence.specs.Patterns.{pattern}
@@ -16,7 +15,7 @@ use Rattle.pattern.specs.Counting.{count_of, in_range}
 use Rattle.sequence.specs.Counting.{Steady}
 use Rattle.pattern.specs.declared.counter.Counter.{Counter}
 use Rattle.laws.proofs.Truth.{is_true, true_is}
-use Rattle.pattern.proofs.Tests.{grouped, seven, all_seven, not_both, the_other, either_way}
+use Rattle.pattern.proofs.Tests.{seven, all_seven, not_both, the_other, either_way}
 use Rattle.sequence.proofs.Zero.{never_both}
 
 pub record Sound (c : Counter) : Type 0 where
@@ -55,13 +54,6 @@ is_in_range c s =
     (either_way f (eqb c.bits 0) (λ h. eq-eqb _ _ (s.idle (eqb-false _ _ h))))
     (le-leb _ _ s.errors)
     (le-leb _ _ s.bits)
-
-pub parts : (c : Counter) → in_range c
-    ≡ pattern c.pattern
-    && ((leb c.filled c.pattern && ltb c.register (2 ^ c.filled) && not (eqb c.filled c.pattern && eqb c.register 0))
-    && ((eqb c.filled c.pattern || eqb c.bits 0) && leb c.errors c.bits && leb c.bits most_counted))
-unfolding in_range
-parts c = grouped (pattern c.pattern) _ _ _ _ _ _
 
 pub steady : (c : Counter) → Sound c → Steady c.pattern (count_of c)
 steady c s = record { places = s.places; register = s.register; errors = s.errors }

@@ -6,12 +6,11 @@
 -- │ not_both      │ of "not both", where both hold                              │
 -- │ the_other     │ of two alternatives the second, where it is not the first   │
 -- │ either_way    │ two alternatives, the second where it is not the first      │
--- │ grouped       │ a test that is seven, as one, three and three               │
 -- │ past          │ where the test of an answer fails, it is the other one      │
 -- │ refused_alike │ where one of three tests refuses, more tests change nothing │
 -- │ passed        │ where none does, what the three tests said                  │
+-- │ refusal_owed  │ a refusal that is owed is the number that refuses           │
 -- │ refuses       │ what is owed where something refuses                        │
--- │ answers       │ what is owed where nothing does                             │
 -- └───────────────┴─────────────────────────────────────────────────────────────┘
 use mathlib.Core.Path.{◌≡◌, refl, sym, ap, ◌∙◌}
 use mathlib.Core.Bool.{Bool, true, false, cond, not, ◌&&◌, ◌||◌}
@@ -19,7 +18,8 @@ use Prim.Native.Nat.{ℕ, zero, suc, ◌≤◌, ◌<◌}
 use lib.Dec.{ltb}
 use borrow.Author.Tests.{lt-ltb, le-ltb, ltb-true, ltb-false}
 use native.Mathlib.Omega.{arith}
-use Rattle.paper.specs.Answer.{gives, refused, owed}
+use Rattle.paper.specs.Answer.{refused, owed}
+use Rattle.paper.proofs.Answer.{refused_one, never_both}
 use Rattle.laws.proofs.Truth.{is_true, two}
 
 pub ltb_same : (m n p q : ℕ) → (m < n → p < q) → (n ≤ m → q ≤ p) → ltb m n ≡ ltb p q
@@ -60,13 +60,6 @@ pub past : {A : Type 0} (t : Bool) (a x y : A) → (a ≡ y → ⊥) → cond t 
 past true a x y n e = absurd (n e)
 past false a x y n e = (refl, e)
 
-pub grouped : (a b c d e f g : Bool) → a && b && c && d && e && f && g ≡ a && ((b && c && d) && (e && f && g))
-grouped false b c d e f g = refl
-grouped true false c d e f g = refl
-grouped true true false d e f g = refl
-grouped true true true false e f g = refl
-grouped true true true true e f g = refl
-
 -- three tests in order, and the numbers of their refusals; of the third there may be two forms, and more tests may follow it
 module _ (x y z n : ℕ) where
   pub refused_alike : (a b c d : Bool) (t : ℕ) → (b ≡ true → c ≡ d)
@@ -82,10 +75,10 @@ module _ (x y z n : ℕ) where
   passed false true true X Y Z e h = absurd (omega arith)
   passed false true false X Y Z e h = (refl, refl, refl)
 
+pub refusal_owed : {A : Type 0} (m n : ℕ) (a : A) → refused m ≡ owed n a → (m ≡ n) × (m ≡ 0 → ⊥)
+refusal_owed m zero a e = absurd (never_both a m (sym e))
+refusal_owed m (suc n) a e = let f = refused_one m (suc n) e in (f, λ z. omega (arith, f))
+
 pub refuses : {A : Type 0} (m n : ℕ) (a : A) → m ≡ n → (m ≡ 0 → ⊥) → refused m ≡ owed n a
 refuses m zero a e h = absurd (h e)
 refuses m (suc n) a e h = ap refused e
-
-pub answers : {A : Type 0} (m n : ℕ) (a : A) → m ≡ n → m ≡ 0 → gives a ≡ owed n a
-answers m zero a e h = refl
-answers m (suc n) a e h = absurd (omega arith)

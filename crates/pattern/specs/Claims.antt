@@ -22,7 +22,7 @@
 -- │ LosesNothing  │ a count as a float is that number, and comes back as it was    │
 -- │ OneRounding   │ a quotient of two counts is one rounding of the exact fraction │
 -- └───────────────┴────────────────────────────────────────────────────────────────┘
-use Rattle.std.specs.Prelude.{◌≡◌, true, false, List, [], ◌∷◌, ◌++◌, ℕ, ◌+◌, ◌-◌, ◌*◌, ◌≤◌, ◌<◌, length, get_or, drop, pos}
+use Rattle.std.specs.Prelude.{◌≡◌, true, false, List, [], ◌∷◌, ◌++◌, ℕ, ◌+◌, ◌-◌, ◌*◌, ◌≤◌, ◌<◌, length, get_or, drop, pos, Result, Ok}
 use Rattle.std.specs.Float.{binary64}
 use Rattle.std.specs.Float.Ieee.{of_int, to_unsigned, round}
 use Rattle.std.specs.Float.Ieee.Exact.{HasValue}
@@ -31,6 +31,7 @@ use Rattle.sequence.specs.Sequence.{Follows, bytes}
 use Rattle.sequence.specs.Claims.{Begins, errors_from}
 use Rattle.paper.specs.Numbers.{most_bytes, most_counted}
 use Rattle.paper.specs.Answer.{gives}
+use Rattle.paper.specs.declared.Refusal.{Refusal}
 use Rattle.laws.specs.Bits.{joining}
 use Rattle.sequence.specs.Patterns.{second_tap}
 use Rattle.pattern.specs.Generation.{registered, advanced}
@@ -38,47 +39,42 @@ use Rattle.pattern.specs.Counting.{in_range, fresh}
 use Rattle.pattern.specs.Calls.{Starts, fill_answer, Fills, Opens, feed_answer, Feeds, Reports}
 use Rattle.pattern.specs.Reporting.{over}
 use Rattle.pattern.specs.declared.counter.Counter.{Counter}
-use Rattle.pattern.specs.declared.counter.Opened.{Opened}
-use Rattle.pattern.specs.declared.counter.Fed.{Fed}
 use Rattle.pattern.specs.declared.report.Report.{Report}
 use Rattle.pattern.specs.declared.generator.Generator.{Generator}
-use Rattle.pattern.specs.declared.generator.Started.{Started}
-use Rattle.pattern.specs.declared.generator.Filled.{Filled}
-use Rattle.pattern.specs.declared.generator.Filled.TheVariants.{Advanced}
 
 abbrev pub OneStart : Type 0
-OneStart = (p r : ℕ) (s t : Started) → Starts p r s → Starts p r t → s ≡ t
+OneStart = (p r : ℕ) (s t : Result Generator Refusal) → Starts p r s → Starts p r t → s ≡ t
 
 abbrev pub OneFresh : Type 0
-OneFresh = (p : ℕ) (s t : Opened) → Opens p s → Opens p t → s ≡ t
+OneFresh = (p : ℕ) (s t : Result Counter Refusal) → Opens p s → Opens p t → s ≡ t
 
 abbrev pub OneFeed : Type 0
-OneFeed = (c : Counter) (piece : List ℕ) (s t : Fed) → Feeds c piece s → Feeds c piece t → s ≡ t
+OneFeed = (c : Counter) (piece : List ℕ) (s t : Result Counter Refusal) → Feeds c piece s → Feeds c piece t → s ≡ t
 
 abbrev pub OneReport : Type 0
-OneReport = (c : Counter) (s t : Report) → Reports c s → Reports c t → s ≡ t
+OneReport = (c : Counter) (s t : Result Report Refusal) → Reports c s → Reports c t → s ≡ t
 
 abbrev pub OneFill : Type 0
 OneFill =
-    (g : Generator) (before : List ℕ) (r s : Filled) (x y : List ℕ)
+    (g : Generator) (before : List ℕ) (r s : Result Generator Refusal) (x y : List ℕ)
     → Fills g before r x → Fills g before s y → (r ≡ s) × (x ≡ y)
 
 abbrev pub Continues : Type 0
 Continues =
-    (g h : Generator) (before after : List ℕ) → Fills g before (Advanced h) after
+    (g h : Generator) (before after : List ℕ) → Fills g before (Ok h) after
     → (b : ℕ → ℕ) → Follows g.pattern (second_tap g.pattern) b → Begins g.pattern g.register b
     → ((k : ℕ) → k < 8 * length before → get_or (bits_of after) k 0 ≡ b (g.pattern + k))
     × Begins g.pattern h.register (λ n. b (8 * length before + n))
 
 abbrev pub FillsOn : Type 0
 FillsOn =
-    (g h : Generator) (before after : List ℕ) → Fills g before (Advanced h) after
+    (g h : Generator) (before after : List ℕ) → Fills g before (Ok h) after
     → (n : ℕ) → n ≤ most_bytes → fill_answer h n ≡ gives (advanced h n)
 
 abbrev pub FillsInPieces : Type 0
 FillsInPieces =
-    (g h k : Generator) (a b x y : List ℕ) → Fills g a (Advanced h) x → Fills h b (Advanced k) y
-    → length (a ++ b) ≤ most_bytes → Fills g (a ++ b) (Advanced k) (x ++ y)
+    (g h k : Generator) (a b x y : List ℕ) → Fills g a (Ok h) x → Fills h b (Ok k) y
+    → length (a ++ b) ≤ most_bytes → Fills g (a ++ b) (Ok k) (x ++ y)
 
 pub data AllFed : Counter → List (List ℕ) → Counter → Type 0 where
   none : {c : Counter} → AllFed c [] c

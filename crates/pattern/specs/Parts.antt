@@ -2,9 +2,8 @@
 -- ┌────────────────────┬─────────────────────────────────────────────────────────────┐
 -- │ Advances p r b q a │ the register r is q after the buffer b is filled, which     │
 -- │                    │ is a then                                                   │
--- │ Taps l t           │ a byte reaches no tap of its own, and shifts stay in a word │
--- │ Entering l c n k   │ there is room for the k bits of n                           │
--- │ Comparing l c n k  │ the register is full, and n is k bits                       │
+-- │ Entering l c k     │ there is room for k bits                                    │
+-- │ Comparing l c      │ the register is full                                        │
 -- │ compared c n       │ the bits compared after n bytes more                        │
 -- │ piece_refusal c n  │ the number that refuses a piece of n bytes before it is     │
 -- │                    │ fed, or 0                                                   │
@@ -20,25 +19,15 @@ pub record Advances (p r : ℕ) (before : List ℕ) (q : ℕ) (after : List ℕ)
   pub register : q ≡ onward p (second_tap p) (8 * length before) r
   pub buffer : after ≡ bytes p (second_tap p) (length before) r
 
-pub record Taps (l t : ℕ) : Type 0 where
-  pub byte : 8 ≤ t
-  pub apart : t < l
-  pub word : l < 32
-
-pub record Entering (l : ℕ) (c : Counter) (n k : ℕ) : Type 0 where
-  pub word : l < 32
+pub record Entering (l : ℕ) (c : Counter) (k : ℕ) : Type 0 where
   pub places : c.filled + k ≤ l
   pub register : c.register < 2 ^ c.filled
-  pub bits : n < 2 ^ k
-  pub byte : k ≤ 8
 
-pub record Comparing (l : ℕ) (c : Counter) (n k : ℕ) : Type 0 where
+pub record Comparing (l : ℕ) (c : Counter) : Type 0 where
   pub full : c.filled ≡ l
   pub register : c.register < 2 ^ l
   pub errors : c.errors ≤ c.bits
   pub room : c.bits < 2 ^ 55
-  pub bits : n < 2 ^ k
-  pub byte : k ≤ 8
 
 abbrev pub compared : Counter → ℕ → ℕ
 compared c n = c.bits + (8 * n - (c.pattern - c.filled))

@@ -7,6 +7,6 @@ mod range;
 mod report;
 mod steps;
 
-pub use counter::{Counter, Fed, Opened};
-pub use generator::{Filled, Generator, Started};
+pub use counter::Counter;
+pub use generator::Generator;
 pub use report::Report;

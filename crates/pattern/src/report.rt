@@ -1,16 +1,14 @@
 // The counter's report: bits compared, errors, and how often they came.
 ghost use Rattle.std.specs.Prelude.{◌≡◌, ◌≤◌};
 ghost use Rattle.paper.specs.Numbers.{most_counted};
-ghost use Rattle.paper.specs.Answer.{gives};
 ghost use Rattle.pattern.specs.Reporting.{figures};
-ghost use Rattle.pattern.specs.Answers.{reported};
+ghost use Rattle.pattern.specs.Answers.{figures_in};
 ghost use Rattle.pattern.specs.Calls.{Reports};
 
 use crate::counter::Counter;
-use crate::range;
-use paper::{NOTHING_COMPARED, OUTSIDE};
+use paper::Refusal;
 
-#[derive(Clone, Copy)]
+#[derive(Clone, Copy, Debug, PartialEq)]
 pub enum Report {
     // Errors were found: their ratio to the bits.
     Measured {
@@ -24,12 +22,11 @@ pub enum Report {
         errors: u64,
         ceiling: f64,
     },
-    Refused(u8),
 }
 
 fn rated(bits: u64, errors: u64) -> Report
     requires { (bits ≤ most_counted) × (errors ≤ bits) }
-    ensures { reported result ≡ gives (figures bits errors) }
+    ensures { figures_in result ≡ figures bits errors }
 {
     if errors == 0 {
         return Report::Ceiling {
@@ -47,17 +44,17 @@ fn rated(bits: u64, errors: u64) -> Report
 
 impl Counter {
     // 11: a state out of its range; 19: nothing compared.
-    pub fn report(self) -> Report
+    pub fn report(self) -> Result<Report, Refusal>
         ensures { Reports self result }
     {
-        let known = range::in_range(self);
+        let known = self.in_range();
         let bits = self.bits;
         if !known {
-            return Report::Refused(OUTSIDE);
+            return Err(Refusal::Outside);
         }
         if bits == 0 {
-            return Report::Refused(NOTHING_COMPARED);
+            return Err(Refusal::NothingCompared);
         }
-        rated(bits, self.errors)
+        Ok(rated(bits, self.errors))
     }
 }

@@ -1,20 +1,43 @@
-// The steps of a register over the pattern's length l and its second tap t.
+// The taps of a pattern, and the steps of a register over them.
 ghost use Rattle.std.specs.Prelude.{◌≡◌, ◌≤◌, ◌<◌, ◌^◌};
 ghost use Rattle.sequence.specs.Bits.{number};
 ghost use Rattle.sequence.specs.Sequence.{onward, next_bits};
 
-// The next k bits as a number. None of them is a tap of another, so one exclusive-or gives them all.
-pub(crate) fn ahead(r: u64, l: u64, t: u64, k: u64) -> u64
-    requires { (r < 2 ^ l) × (k ≤ t) × (t < l) × (l < 32) }
-    ensures { (result ≡ number (next_bits l t k r)) × (result < 2 ^ k) }
-{
-    ((r ^ (r << (l - t))) >> (l - k)) % (1 << k)
+// The pattern's length L and its second tap T, constants so that each pattern has loops of its own with fixed shifts.
+#[derive(Clone, Copy, Debug, PartialEq, Eq)]
+pub(crate) struct Taps<const L: u64, const T: u64> {
+    // A byte reaches no tap of its own, and shifts stay in a word.
+    ghost byte: { 8 ≤ T },
+    ghost apart: { T < L },
+    ghost word: { L < 32 },
 }
 
-// The register k bits on, where n is those bits.
-pub(crate) fn moved(r: u64, l: u64, t: u64, k: u64, n: u64) -> u64
-    requires { (r < 2 ^ l) × (k ≤ 8) × (l < 32) × (n ≡ number (next_bits l t k r)) × (n < 2 ^ k) }
-    ensures { (result ≡ onward l t k r) × (result < 2 ^ l) }
-{
-    ((r << k) + n) % (1 << l)
+// A run of bits, at most a byte of them, as a number: the first highest.
+#[derive(Clone, Copy, Debug, PartialEq, Eq)]
+pub(crate) struct Run {
+    pub(crate) bits: u64,
+    pub(crate) len: u64,
+    ghost byte: { len ≤ 8 },
+    ghost fits: { bits < 2 ^ len },
+}
+
+impl<const L: u64, const T: u64> Taps<L, T> {
+    // The next k bits. None of them is a tap of another, so one exclusive-or gives them all.
+    pub(crate) fn ahead(self, r: u64, k: u64) -> Run
+        requires { (r < 2 ^ L) × (k ≤ 8) }
+        ensures { (result.len ≡ k) × (result.bits ≡ number (next_bits L T k r)) }
+    {
+        Run {
+            bits: ((r ^ (r << (L - T))) >> (L - k)) % (1 << k),
+            len: k,
+        }
+    }
+
+    // The register after the run, which is of the bits that come next.
+    pub(crate) fn moved(self, r: u64, run: Run) -> u64
+        requires { (r < 2 ^ L) × (run.bits ≡ number (next_bits L T run.len r)) }
+        ensures { (result ≡ onward L T run.len r) × (result < 2 ^ L) }
+    {
+        ((r << run.len) + run.bits) % (1 << L)
+    }
 }

@@ -12,7 +12,7 @@ use Rattle.sequence.specs.Counting.{Steady, fed_bits}
 use Rattle.pattern.specs.declared.counter.Counter.{Counter}
 use Rattle.sequence.proofs.Digits.{length_highest, bits_highest}
 use Rattle.sequence.proofs.Fed.{fed_append, steady_fed, bits_fed}
-use Rattle.pattern.proofs.counter.feed_bytes.Goals as goal
+use Rattle.pattern.proofs.steps.Taps.feed_bytes.Goals as goal
 
 -- one byte on
 fed-byte : (l t : ℕ) (piece : List ℕ) (d : Counter) (i : ℕ) → i < length piece
@@ -27,25 +27,25 @@ fed-none : (l t : ℕ) (piece : List ℕ) (d : Counter) (i : ℕ) → i ≡ leng
 unfolding bits_of fed_bits
 fed-none l t piece d i e = ap (λ (b : List ℕ). fed_on l t d (bits_of b)) (sym (ap (λ (n : ℕ). drop n piece) e ∙ drop-length piece))
 
-pub loop-i-preserved : goal.loop-i-preserved
-loop-i-preserved c =
-    let o = c.loop-i in
+pub loop-x-preserved : goal.loop-x-preserved
+loop-x-preserved g c =
+    let o = c.loop-x in
     let a = c.args in
+    let L = g.row.L in
+    let T = g.row.T in
     let d = o.d in
-    let x = get_or a.piece.now o.i 0 in
+    let x = get_or a.piece.now o.x-index 0 in
     let e = c.feed_byte-d.ensures in
-    let s = o.invariant.2 in
-    let n = bits_fed a.l a.t (highest 8 x) (count_of d) s.places in (
-      omega arith,
-      ap (λ (k : Counter). fed_on a.l a.t k (bits_of (drop (o.i + 1) a.piece.now))) e
-          ∙ fed-byte a.l a.t a.piece.now d o.i (omega arith)
-          ∙ o.invariant.1,
-      subst (Steady a.l) (sym (ap count_of e)) (steady_fed a.l a.t (bits_highest 8 x) (count_of d) s),
+    let s = o.invariant.1 in
+    let n = bits_fed L T (highest 8 x) (count_of d) s.places in (
+      ap (λ (k : Counter). fed_on L T k (bits_of (drop (o.x-index + 1) a.piece.now))) e
+          ∙ fed-byte L T a.piece.now d o.x-index (omega arith)
+          ∙ o.invariant.0,
+      subst (Steady L) (sym (ap count_of e)) (steady_fed L T (bits_highest 8 x) (count_of d) s),
       omega (arith, ap (λ (k : Counter). k.bits) e, n, length_highest 8 x),
     )
 
 pub returns : goal.returns
-returns c =
-    let o = c.loop-i in
-    let a = c.args in
-    fed-none a.l a.t a.piece.now o.d o.i (omega arith) ∙ o.invariant.1
+returns g c =
+    let o = c.loop-x in
+    fed-none g.row.L g.row.T c.args.piece.now o.d o.x-index (omega arith) ∙ o.invariant.0

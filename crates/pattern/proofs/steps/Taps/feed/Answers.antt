@@ -1,7 +1,8 @@
 -- Each return is one of the cases in `Answers`.
 use mathlib.Core.Path.{◌≡◌, sym, ap, ap₂, ◌∙◌, subst}
-use Prim.Native.Nat.{ℕ, ◌≤◌, ◌<◌}
+use Prim.Native.Nat.{ℕ}
 use mathlib.Core.List.{List}
+use lib.Dec.{lit<}
 use lib.ListN.{length}
 use native.Mathlib.Omega.{arith}
 use Rattle.sequence.specs.Bits.{bits_of}
@@ -12,10 +13,10 @@ use Rattle.pattern.specs.Calls.{feed_answer}
 use Rattle.pattern.specs.Parts.{piece_refusal}
 use Rattle.sequence.specs.Counting.{Steady}
 use Rattle.pattern.specs.declared.counter.Counter.{Counter}
-use Rattle.sequence.proofs.Taps.{taps}
 use Rattle.pattern.proofs.Sound.{sound, steady}
 use Rattle.pattern.proofs.Answers.{short, inside, refuse_zero, accept}
-use Rattle.pattern.proofs.counter.feed_at.Goals as goal
+use Rattle.pattern.proofs.steps.Taps.feed.Goals as goal
+use Rattle.pattern.proofs.steps.Taps.feed.Goals.{else-d-via-then-d+else-d-eq0, else-d-via-else-d}
 
 -- what the bytes leave is what is owed of the whole piece
 fed_is : (s d : Counter) (l t : ℕ) (piece : List ℕ) → d ≡ fed_on l t s (bits_of piece) → s.pattern ≡ l → t ≡ second_tap l
@@ -29,29 +30,24 @@ accepted s d l piece i p r f =
     ap gives i ∙ accept s piece r (λ g z. f (ap (λ (x : Counter). x.filled) i ∙ g ∙ p) (ap (λ (x : Counter). x.register) i ∙ z))
 
 pub feed_bytes-d-requires : goal.feed_bytes-d-requires
-feed_bytes-d-requires c =
+feed_bytes-d-requires g c =
     let a = c.args.c in
-    let d = sound a (inside a c.args.piece.now c.requires.2) in
-    let k = taps a.pattern d.known in
-    let w = subst (λ (n : ℕ). (8 ≤ second_tap n) × (second_tap n < n) × (n < 32)) c.requires.0 (k.1, k.2, k.3) in
-    let t = subst (λ (n : ℕ). (8 ≤ n) × (n < c.args.l)) (sym c.requires.1) (w.0, w.1) in
-    (record { byte = t.0; apart = t.1; word = w.2 }, subst (λ (n : ℕ). Steady n (count_of a)) c.requires.0 (steady a d), omega (arith, d.bits), short a c.args.piece.now c.requires.2)
+    let r = c.requires in
+    let d = sound a (inside a c.args.piece.now r.2) in
+    (lit< tt, (subst (λ (n : ℕ). Steady n (count_of a)) r.0 (steady a d), omega (arith, d.bits), short a c.args.piece.now r.2))
 
 pub returns-then-d-eq0 : goal.returns-then-d-eq0
-returns-then-d-eq0 c =
+returns-then-d-eq0 g c =
     let a = c.args in
     let r = c.requires in
-    let i = fed_is a.c _ a.l a.t a.piece.now c.feed_bytes-d.ensures r.0 r.1 in
-    refuse_zero a.c a.piece.now r.2 (sym (ap (λ (d : Counter). d.filled) i) ∙ c.if-d-l.true ∙ sym r.0) (sym (ap (λ (d : Counter). d.register) i) ∙ c.if-d-eq0.true)
+    let i = fed_is a.c _ g.row.L g.row.T a.piece.now c.feed_bytes-d.ensures r.0 r.1 in
+    refuse_zero a.c a.piece.now r.2 (sym (ap (λ (d : Counter). d.filled) i) ∙ c.if-d.true ∙ sym r.0) (sym (ap (λ (d : Counter). d.register) i) ∙ c.if-d-eq0.true)
 
-pub returns-else-d-eq0 : goal.returns-else-d-eq0
-returns-else-d-eq0 c =
+pub returns : goal.returns
+returns g c =
     let a = c.args in
     let r = c.requires in
-    accepted a.c _ a.l a.piece.now (fed_is a.c _ a.l a.t a.piece.now c.feed_bytes-d.ensures r.0 r.1) r.0 r.2 (λ f z. c.if-d-eq0.false z)
-
-pub returns-else-d-l : goal.returns-else-d-l
-returns-else-d-l c =
-    let a = c.args in
-    let r = c.requires in
-    accepted a.c _ a.l a.piece.now (fed_is a.c _ a.l a.t a.piece.now c.feed_bytes-d.ensures r.0 r.1) r.0 r.2 (λ f z. c.if-d-l.false f)
+    let i = fed_is a.c _ g.row.L g.row.T a.piece.now c.feed_bytes-d.ensures r.0 r.1 in
+    let live : c.feed_bytes-d.result.filled ≡ g.row.L → c.feed_bytes-d.result.register ≡ 0 → ⊥ =
+    λ f z. elim c.else-d.branch [ else-d-via-then-d+else-d-eq0 w ↦ w.if-d-eq0.false z | else-d-via-else-d w ↦ w.if-d.false f ] in
+    accepted a.c _ g.row.L a.piece.now i r.0 r.2 live

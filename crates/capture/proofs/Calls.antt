@@ -6,17 +6,18 @@
 -- │ frames_read   │ its frames are the first numbers of the file                   │
 -- │ bytes_read    │ their bytes its first bytes                                    │
 -- │ notes_read    │ its notes stand behind them                                    │
--- │ lent_unfit    │ where what was lent does not fit, 12 is owed                   │
--- │ lent_fits     │ where it does, what `head` refuses with                        │
+-- │ enough_bytes  │ whole eights with room for 8,000 fit                           │
+-- │ lent_fits     │ where what was lent fits, what `head` refuses with is owed     │
 -- └───────────────┴────────────────────────────────────────────────────────────────┘
 use mathlib.Core.Path.{◌≡◌, refl, sym, ap, ap₂, ◌∙◌, subst}
-use mathlib.Core.Bool.{Bool, true, false}
+use mathlib.Core.Bool.{Bool, true}
 use mathlib.Core.List.{List}
 use Prim.Native.Nat.{ℕ, zero, suc, ◌+◌, ◌-◌, ◌*◌, ◌%◌, ◌^◌, ◌≤◌}
 use native.Mathlib.Omega.{arith}
+use borrow.Author.Tests.{le-leb, eq-eqb}
 use lib.ListN.{length, take, drop, length-drop}
 use lib.Seq.{take_all}
-use Rattle.paper.specs.Numbers.{unfit, most_bytes}
+use Rattle.paper.specs.Numbers.{most_bytes}
 use Rattle.paper.specs.Answer.{Answer, gives, refused, owed}
 use Rattle.laws.specs.Bits.{Octets}
 use Rattle.radix.specs.Octets.{numbers_of, bytes_of}
@@ -25,7 +26,7 @@ use Rattle.filing.proofs.Trailer.{marks, mark}
 use Rattle.filing.proofs.Captures.{file_size, frames_in_lem, frame_bytes, notes_in}
 use Rattle.filing.proofs.Judging.{verdict_by, Told, judging}
 use Rattle.capture.specs.declared.Label.{Label}
-use Rattle.capture.specs.Calls.{label_of, RefusedFor, Heads}
+use Rattle.capture.specs.Calls.{label_of, RefusedFor, Heads, fits_bytes}
 use Rattle.capture.specs.Parts.{judged_by}
 
 told : (bs : List ℕ) (l n k : ℕ) → Told bs l n k → Heads bs (owed k (record { lane = l; count = n }))
@@ -73,9 +74,9 @@ module _ {bs : List ℕ} {h : Label} (w : Opened bs h) where
   pub notes_read : (n : ℕ) → n ≡ length w.capture.notes → take n (drop (h.count * 8) bs) ≡ w.capture.notes
   notes_read n e = ap₂ (λ (m : ℕ) (l : List ℕ). take n (drop (m * 8) l)) many w.holds.file ∙ notes_in w.capture n e
 
-module _ (bs : List ℕ) {f : Bool} where
-  pub lent_unfit : f ≡ false → RefusedFor f bs unfit
-  lent_unfit e = subst (λ (b : Bool). RefusedFor b bs unfit) (sym e) refl
+pub enough_bytes : (o : List ℕ) → length o % 8 ≡ 0 → most_frames * 8 ≤ length o → fits_bytes o ≡ true
+enough_bytes o e h = simp (eq-eqb _ _ e, le-leb _ _ h)
 
+module _ (bs : List ℕ) {f : Bool} where
   pub lent_fits : (n : ℕ) → f ≡ true → Heads bs (refused n) → RefusedFor f bs n
   lent_fits n e r = subst (λ (b : Bool). RefusedFor b bs n) (sym e) r.0

@@ -14,7 +14,7 @@ use lib.Dec.{leb, ltb}
 use lib.ListN.{length, take, drop}
 use lib.Seq.{take_at}
 use Rattle.std.specs.Borrow.{Bor}
-use Rattle.paper.specs.Numbers.{unfit, most_bytes}
+use Rattle.paper.specs.Numbers.{unfit, too_many_frames, most_bytes}
 use Rattle.paper.specs.Answer.{Answer, gives, refused, owed}
 use Rattle.paper.proofs.Answer.{given, never_both}
 use Rattle.laws.specs.Lent.{Lent, Left, ◌over◌}
@@ -22,7 +22,6 @@ use Rattle.laws.proofs.Truth.{neither}
 use Rattle.laws.proofs.Writing.{over_fits}
 use Rattle.radix.specs.Octets.{numbers_of, bytes_of, ragged}
 use Rattle.filing.specs.File.{most_frames, Capture, kept, file_of, Holds}
-use Rattle.filing.specs.Refused.{too_many_frames}
 use Rattle.filing.proofs.Captures.{file_size}
 use Rattle.filing.proofs.Claims.{one_holds, not_both}
 use Rattle.capture.specs.Calls.{write_refusal, Files, label_of, RefusedFor, FileCall, fits_bytes, HandsNotes}

@@ -6,6 +6,7 @@
 -- │ upto_size      │ it keeps its length                                            │
 -- │ upto_more      │ one more                                                       │
 -- │ upto_end       │ after i of them                                                │
+-- │ front_over     │ a part that came back from the front                           │
 -- │ part_over      │ a part that came back as zs, by the whole                      │
 -- │ over_again     │ a part behind those that stand at the front already            │
 -- │ two_parts      │ two parts that came back, one behind the other                 │
@@ -52,6 +53,9 @@ module _ {xs o₀ o : List ℕ} {i : ℕ} (u : Upto xs o₀ i o) where
 
   pub upto_end : {n : ℕ} → i ≡ n → o ≡ take n xs over o₀
   upto_end e = u.is ∙ ap (λ (k : ℕ). take k xs over o₀) e
+
+pub front_over : (ys zs o : List ℕ) (k : ℕ) → ys ≡ zs → k ≡ length zs → length zs ≤ length o → ys ++ drop k o ≡ zs over o
+front_over ys zs o k y e h = ap₂ (λ (l : List ℕ) (m : ℕ). l ++ drop m o) y e ∙ sym (over_fits zs o h)
 
 pub part_over : (o ys zs : List ℕ) (at k : ℕ) → ys ≡ zs → k ≡ length zs → at + length zs ≤ length o
     → take at o ++ (ys ++ drop k (drop at o)) ≡ (take at o ++ zs) over o

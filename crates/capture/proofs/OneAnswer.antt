@@ -11,36 +11,20 @@ use mathlib.Core.Logic.{◌⊎◌, inl, inr}
 use Prim.Native.Nat.{ℕ, ◌+◌, ◌*◌}
 use lib.Dec.{leb}
 use lib.ListN.{length}
+use Rattle.std.specs.Prelude.{Result, Ok, Err}
 use Rattle.paper.specs.Numbers.{unfit}
-use Rattle.paper.specs.Answer.{Answer, gives, refused, owed}
-use Rattle.paper.proofs.Answer.{either, known_by}
+use Rattle.paper.specs.Answer.{Answer, gives, refused, owed, code, answer}
+use Rattle.paper.specs.declared.Refusal.{Refusal}
+use Rattle.paper.specs.declared.Refusal.TheVariants.{Unfit, NoTag, Disagreeing, TooManyFrames}
+use Rattle.paper.proofs.Answer.{answer_one}
 use Rattle.laws.specs.Lent.{Lent, Left, ◌over◌}
 use Rattle.radix.specs.Octets.{numbers_of, bytes_of, ragged}
 use Rattle.filing.specs.File.{most_frames, Capture, kept, file_of, Holds}
-use Rattle.filing.specs.Refused.{Refuses}
+use Rattle.filing.specs.Refused.{Refuses, over_size, without_tag, disagree, too_many}
 use Rattle.filing.proofs.Claims.{held_or_refused, one_refusal, one_holds, not_both}
-use Rattle.capture.specs.Answers.{filed, answer}
 use Rattle.capture.specs.Calls.{write_refusal, Files, label_of, RefusedFor, FileCall, Heads, fits_bytes}
 use Rattle.capture.specs.Claims.{OneFiled, OneFiledBytes, OneHead, OneRead, OneReadBytes, OneNotes, SomeHead}
-use Rattle.capture.specs.declared.Filed.{Filed}
-use Rattle.capture.specs.declared.Filed.TheVariants.{Length, Refused as Unfiled}
 use Rattle.capture.specs.declared.Label.{Label}
-use Rattle.capture.specs.declared.Labelled.{Labelled}
-use Rattle.capture.specs.declared.Labelled.TheVariants.{Found, Refused as Unlabelled}
-
-filed_one : (r s : Filed) → filed r ≡ filed s → r ≡ s
-filed_one = known_by filed (either Length Unfiled) back
-  where
-    back : (r : Filed) → either Length Unfiled (filed r) ≡ r
-    back (Length n) = refl
-    back (Unfiled n) = refl
-
-answer_one : (r s : Labelled) → answer r ≡ answer s → r ≡ s
-answer_one = known_by answer (either Found Unlabelled) back
-  where
-    back : (r : Labelled) → either Found Unlabelled (answer r) ≡ r
-    back (Found h) = refl
-    back (Unlabelled n) = refl
 
 pub one_files : (m n : ℕ) (c : Capture) (o o' : Lent) (a b : Answer ℕ) → m ≡ n → o.was ≡ o'.was → Files m c o a → Files n c o' b
     → (a ≡ b) × (o.is ≡ o'.is)
@@ -57,14 +41,14 @@ one_files m n c o o' a b k e p q =
 pub one_filed : OneFiled
 one_filed l fs ns o o' r s e p q =
     let c = kept l fs ns in
-    let x = one_files _ _ c o o' (filed r) (filed s) (ap (write_refusal c) e) e p q in
-    (filed_one r s x.0, x.1)
+    let x = one_files _ _ c o o' (answer r) (answer s) (ap (write_refusal c) e) e p q in
+    (answer_one r s x.0, x.1)
 
 pub one_filed_bytes : OneFiledBytes
 one_filed_bytes l bs ns o o' r s e p q =
     let c = kept l (numbers_of bs) ns in
-    let x = one_files _ _ c o o' (filed r) (filed s) (ap (λ (w : List ℕ). cond (ragged bs) unfit (write_refusal c w)) e) e p q in
-    (filed_one r s x.0, x.1)
+    let x = one_files _ _ c o o' (answer r) (answer s) (ap (λ (w : List ℕ). cond (ragged bs) unfit (write_refusal c w)) e) e p q in
+    (answer_one r s x.0, x.1)
 
 one_number : (f : Bool) (bs : List ℕ) (m n : ℕ) → RefusedFor f bs m → RefusedFor f bs n → m ≡ n
 one_number true bs m n p q = one_refusal bs m n p q
@@ -96,7 +80,7 @@ module _ (shows : List ℕ → List ℕ) (fits : List ℕ → Bool) (bs : List �
   abbrev Leaves : Lent → Answer Label → Type 0
   Leaves p a = FileCall (fits p.was) (λ c h. (h ≡ label_of c) × (p.is ≡ shows c.frames over p.was)) (p.is ≡ p.was) bs a
 
-  one_list : (r s : Labelled) → Leaves o (answer r) → Leaves o' (answer s) → (r ≡ s) × (o.is ≡ o'.is)
+  one_list : (r s : Result Label Refusal) → Leaves o (answer r) → Leaves o' (answer s) → (r ≡ s) × (o.is ≡ o'.is)
   one_list r s p q =
       let x =
       one_call bs (fits o.was) (fits o'.was) (λ c h. (h ≡ label_of c) × (o.is ≡ shows c.frames over o.was))
@@ -121,9 +105,16 @@ one_notes f r s (inl (c, h, p)) (inr (n, k, q)) = absurd (not_both f.now n k c h
 one_notes f r s (inr (n, k, p)) (inl (d, i, q)) = absurd (not_both f.now n k d i)
 one_notes f r s (inr (n, k, (x, y))) (inr (m, l, (z, w))) = (x ∙ sym z, y ∙ sym w)
 
+-- the refusal of a file by its number
+reason : (bs : List ℕ) (n : ℕ) → Refuses bs n → (r : Refusal) × (n ≡ code r)
+reason bs n (over_size e l) = (Unfit, e)
+reason bs n (without_tag e l f) = (NoTag, e)
+reason bs n (disagree e l t f) = (Disagreeing, e)
+reason bs n (too_many e l t p m) = (TooManyFrames, e)
+
 pub some_head : SomeHead
 some_head bs o = of (held_or_refused bs o)
   where
-    of : ((c : Capture) × Holds bs c) ⊎ ((n : ℕ) × Refuses bs n) → (r : Labelled) × Heads bs (answer r)
-    of (inl (c, h)) = (Found (label_of c), (refl, (c, h, refl)))
-    of (inr (n, r)) = (Unlabelled n, (r, tt))
+    of : ((c : Capture) × Holds bs c) ⊎ ((n : ℕ) × Refuses bs n) → (r : Result Label Refusal) × Heads bs (answer r)
+    of (inl (c, h)) = (Ok (label_of c), (refl, (c, h, refl)))
+    of (inr (n, r)) = let e = reason bs n r in (Err e.0, (subst (Refuses bs) e.1 r, tt))

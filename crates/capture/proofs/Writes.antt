@@ -8,17 +8,16 @@
 -- │ refuses        │ and where it does not                                          │
 -- │ bytes_file,    │ the same of frames that are bytes, whole eights                │
 -- │ bytes_refuse   │                                                                │
--- │ ragged_refuses │ and where they are not                                         │
 -- └────────────────┴────────────────────────────────────────────────────────────────┘
 use mathlib.Core.Path.{◌≡◌, refl, sym, ap, ap₂, ◌∙◌, subst}
 use mathlib.Core.Bool.{Bool, true, false, cond, not, ◌||◌}
 use mathlib.Core.List.{List, ◌++◌, append_assoc}
 use Prim.Native.Nat.{ℕ, ◌+◌, ◌*◌, ◌/◌, ◌%◌, ◌≤◌}
 use native.Mathlib.Omega.{arith}
-use borrow.Author.Tests.{ltb-false, eq-eqb, ne_eqb}
+use borrow.Author.Tests.{ltb-false, eq-eqb}
 use lib.Dec.{ltb}
 use lib.ListN.{length, take, length-append}
-use Rattle.paper.specs.Numbers.{unfit, most_bytes}
+use Rattle.paper.specs.Numbers.{unfit, too_many_frames, most_bytes}
 use Rattle.paper.specs.Answer.{Answer, gives, refused, owed}
 use Rattle.paper.proofs.Answer.{given}
 use Rattle.laws.specs.Lent.{◌over◌}
@@ -28,7 +27,6 @@ use Rattle.radix.specs.Octets.{numbers_of, bytes_of, ragged}
 use Rattle.radix.proofs.Joined.{numbers_len}
 use Rattle.radix.proofs.Stored.{length_bytes}
 use Rattle.filing.specs.File.{most_frames, trailer, Capture, kept, contents, file_of}
-use Rattle.filing.specs.Refused.{too_many_frames}
 use Rattle.filing.proofs.Trailer.{numbers_bytes, trailer_size}
 use Rattle.filing.proofs.Captures.{contents_size, file_size}
 use Rattle.capture.specs.Calls.{write_refusal, Files}
@@ -87,13 +85,6 @@ module _ (l : ℕ) (bs ns o : List ℕ) where
 
   abbrev Leaves : List ℕ → Answer ℕ → Type 0
   Leaves p a = Files (cond (ragged bs) unfit (write_refusal of_bytes o)) of_bytes (record { was = o; is = p }) a
-
-  pub ragged_refuses : (length bs % 8 ≡ 0 → ⊥) → Leaves o (refused unfit)
-  ragged_refuses e =
-      record {
-        answer = ap (λ (b : Bool). owed (cond (not b) unfit (write_refusal of_bytes o)) (length (file_of of_bytes))) (sym (ne_eqb (length bs % 8) 0 e));
-        left = refl;
-      }
 
   module _ (e : length bs % 8 ≡ 0) where
     even : (p : List ℕ) (a : Answer ℕ) → Files (write_refusal of_bytes o) of_bytes (record { was = o; is = p }) a → Leaves p a

@@ -23,12 +23,12 @@
 -- └───────────────────┴─────────────────────────────────────────────────────────────┘
 use Rattle.std.specs.Prelude.{◌≡◌, Bool, true, false, cond, not, ◌&&◌, ◌||◌, List, [], ◌⊎◌, ℕ, ◌+◌, ◌*◌, leb, ltb, length}
 use Rattle.std.specs.Borrow.{Bor}
-use Rattle.paper.specs.Numbers.{unfit, most_bytes}
+use Rattle.paper.specs.Numbers.{unfit, too_many_frames, most_bytes}
 use Rattle.paper.specs.Answer.{Answer, gives, refused, owed}
 use Rattle.laws.specs.Lent.{Lent, Left, ◌over◌}
 use Rattle.radix.specs.Octets.{numbers_of, bytes_of, ragged}
 use Rattle.filing.specs.File.{most_frames, Capture, kept, file_of, Holds}
-use Rattle.filing.specs.Refused.{too_many_frames, Refuses}
+use Rattle.filing.specs.Refused.{Refuses}
 use Rattle.capture.specs.declared.Label.{Label}
 
 abbrev pub write_refusal : Capture → List ℕ → ℕ

@@ -15,47 +15,45 @@
 -- │                │ byte                                                           │
 -- │ NeverARefusal  │ a length that is answered is at least 24                       │
 -- └────────────────┴────────────────────────────────────────────────────────────────┘
-use Rattle.std.specs.Prelude.{◌≡◌, true, List, ℕ, ◌≤◌, length, take}
+use Rattle.std.specs.Prelude.{◌≡◌, true, List, ℕ, ◌≤◌, length, take, Result}
 use Rattle.std.specs.Borrow.{Bor}
-use Rattle.paper.specs.Answer.{Answer, gives}
+use Rattle.paper.specs.Answer.{Answer, gives, answer}
+use Rattle.paper.specs.declared.Refusal.{Refusal}
 use Rattle.laws.specs.Bits.{Octets}
 use Rattle.laws.specs.Lent.{Lent, ◌over◌}
 use Rattle.radix.specs.Octets.{numbers_of, bytes_of}
 use Rattle.filing.specs.File.{most_frames, Capture, kept, Writable}
-use Rattle.capture.specs.Answers.{filed, answer}
 use Rattle.capture.specs.Calls.{Writes, WritesBytes, label_of, Heads, Reads, fits_bytes, ReadsBytes, HandsNotes}
-use Rattle.capture.specs.declared.Filed.{Filed}
 use Rattle.capture.specs.declared.Label.{Label}
-use Rattle.capture.specs.declared.Labelled.{Labelled}
 
 abbrev pub OneFiled : Type 0
 OneFiled =
-    (l : ℕ) (fs ns : List ℕ) (o o' : Lent) (r s : Filed) → o.was ≡ o'.was
-    → Writes l fs ns o (filed r) → Writes l fs ns o' (filed s) → (r ≡ s) × (o.is ≡ o'.is)
+    (l : ℕ) (fs ns : List ℕ) (o o' : Lent) (r s : Result ℕ Refusal) → o.was ≡ o'.was
+    → Writes l fs ns o (answer r) → Writes l fs ns o' (answer s) → (r ≡ s) × (o.is ≡ o'.is)
 
 abbrev pub OneFiledBytes : Type 0
 OneFiledBytes =
-    (l : ℕ) (bs ns : List ℕ) (o o' : Lent) (r s : Filed) → o.was ≡ o'.was
-    → WritesBytes l bs ns o (filed r) → WritesBytes l bs ns o' (filed s) → (r ≡ s) × (o.is ≡ o'.is)
+    (l : ℕ) (bs ns : List ℕ) (o o' : Lent) (r s : Result ℕ Refusal) → o.was ≡ o'.was
+    → WritesBytes l bs ns o (answer r) → WritesBytes l bs ns o' (answer s) → (r ≡ s) × (o.is ≡ o'.is)
 
 abbrev pub OneHead : Type 0
-OneHead = (bs : List ℕ) (r s : Labelled) → Heads bs (answer r) → Heads bs (answer s) → r ≡ s
+OneHead = (bs : List ℕ) (r s : Result Label Refusal) → Heads bs (answer r) → Heads bs (answer s) → r ≡ s
 
 abbrev pub OneRead : Type 0
 OneRead =
-    (bs : List ℕ) (o o' : Lent) (r s : Labelled) → o.was ≡ o'.was → Reads bs o (answer r) → Reads bs o' (answer s)
+    (bs : List ℕ) (o o' : Lent) (r s : Result Label Refusal) → o.was ≡ o'.was → Reads bs o (answer r) → Reads bs o' (answer s)
     → (r ≡ s) × (o.is ≡ o'.is)
 
 abbrev pub OneReadBytes : Type 0
 OneReadBytes =
-    (bs : List ℕ) (o o' : Lent) (r s : Labelled) → o.was ≡ o'.was → ReadsBytes bs o (answer r) → ReadsBytes bs o' (answer s)
+    (bs : List ℕ) (o o' : Lent) (r s : Result Label Refusal) → o.was ≡ o'.was → ReadsBytes bs o (answer r) → ReadsBytes bs o' (answer s)
     → (r ≡ s) × (o.is ≡ o'.is)
 
 abbrev pub OneNotes : Type 0
 OneNotes = (f r s : Bor (List ℕ)) → HandsNotes f r → HandsNotes f s → (r.now ≡ s.now) × (r.ref_ptr ≡ s.ref_ptr)
 
 abbrev pub SomeHead : Type 0
-SomeHead = (bs : List ℕ) → Octets bs → (r : Labelled) × Heads bs (answer r)
+SomeHead = (bs : List ℕ) → Octets bs → (r : Result Label Refusal) × Heads bs (answer r)
 
 pub record ReadsTo (bs : List ℕ) (c : Capture) : Type 0 where
   pub label : (a : Answer Label) → Heads bs a → a ≡ gives (label_of c)

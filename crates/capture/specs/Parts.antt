@@ -11,11 +11,10 @@
 -- │ judged_by a ms    │ the same of a list of them                                  │
 -- └───────────────────┴─────────────────────────────────────────────────────────────┘
 use Rattle.std.specs.Prelude.{Bool, cond, ◌&&◌, ◌||◌, List, ◌++◌, ℕ, ◌+◌, ◌*◌, ◌%◌, ◌^◌, leb, ltb, eqb, length, get_or, take}
-use Rattle.paper.specs.Numbers.{unfit, most_bytes}
+use Rattle.paper.specs.Numbers.{unfit, too_many_frames, most_bytes}
 use Rattle.paper.specs.Answer.{Answer, owed}
 use Rattle.laws.specs.Lent.{◌over◌}
 use Rattle.filing.specs.File.{most_frames, trailer}
-use Rattle.filing.specs.Refused.{too_many_frames}
 use Rattle.filing.proofs.Judging.{verdict_by}
 use Rattle.capture.specs.declared.Label.{Label}
 

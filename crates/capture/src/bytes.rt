@@ -1,44 +1,35 @@
 // The same with frames as bytes: a frame is eight bytes, highest first.
+// Not one generic call with that on numbers: there each frame is turned, here all are one copy; the rest is `fit`, `finish` and `head` in both.
+ghost use Rattle.paper.specs.Answer.{answer};
 ghost use Rattle.laws.specs.Lent.{◌to◌};
-ghost use Rattle.capture.specs.Answers.{filed, answer};
 ghost use Rattle.capture.specs.Calls.{WritesBytes, ReadsBytes};
 
-use crate::{Filed, Labelled, filling};
+use crate::{Label, filling};
+use paper::Refusal;
 
-// The capture file of a lane, its frames and notes, at the start of a lent output.
-pub fn write_bytes(lane: u32, frames: &[u8], notes: &[u8], out: &mut [u8]) -> Filed
-    ensures { WritesBytes lane frames.now notes.now (out.entry to out.exit) (filed result) }
+// The capture file of a lane, its frames and notes, at the start of a lent output; its length is answered.
+pub fn write_bytes(lane: u32, frames: &[u8], notes: &[u8], out: &mut [u8]) -> Result<usize, Refusal>
+    ensures { WritesBytes lane frames.now notes.now (out.entry to out.exit) (answer result) }
 {
     if frames.len() % 8 != 0 {
-        return Filed::Refused(paper::UNFIT);
+        return Err(Refusal::Unfit);
     }
     let count = frames.len() / 8;
-    match filling::fit(count, notes.len(), out.len()) {
-        Filed::Length(n) => {
-            filling::copy(frames, out);
-            filling::finish(lane, count, notes, out);
-            Filed::Length(n)
-        }
-        Filed::Refused(n) => Filed::Refused(n),
-    }
+    let n = filling::fit(count, notes.len(), out.len())?;
+    out[..frames.len()].copy_from_slice(frames);
+    filling::finish(lane, count, notes, out);
+    Ok(n)
 }
 
 // Lane and count of a capture file, and its frames' bytes at the start of a lent output with room for 8,000.
-pub fn read_bytes(file: &[u8], frames: &mut [u8]) -> Labelled
+pub fn read_bytes(file: &[u8], frames: &mut [u8]) -> Result<Label, Refusal>
     ensures { ReadsBytes file.now (frames.entry to frames.exit) (answer result) }
 {
-    if frames.len() % 8 != 0 {
-        return Labelled::Refused(paper::UNFIT);
+    if frames.len() % 8 != 0 || frames.len() < crate::MOST_FRAMES * 8 {
+        return Err(Refusal::Unfit);
     }
-    if frames.len() < crate::MOST_FRAMES * 8 {
-        return Labelled::Refused(paper::UNFIT);
-    }
-    match crate::head(file) {
-        Labelled::Found(h) => {
-            let to = h.count * 8;
-            filling::copy(&file[..to], frames);
-            Labelled::Found(h)
-        }
-        Labelled::Refused(n) => Labelled::Refused(n),
-    }
+    let h = crate::head(file)?;
+    let to = h.count * 8;
+    frames[..to].copy_from_slice(&file[..to]);
+    Ok(h)
 }

@@ -1,13 +1,12 @@
 // Filling a lent output with the parts of a file, and a lent list with its frames.
 ghost use Rattle.std.specs.Prelude.{◌≡◌, not, ◌*◌, ◌/◌, ◌≤◌, length, take};
 ghost use Rattle.paper.specs.Numbers.{most_bytes};
-ghost use Rattle.laws.specs.Lent.{lent, ◌over◌};
+ghost use Rattle.paper.specs.Answer.{answer};
+ghost use Rattle.laws.specs.Lent.{◌over◌};
 ghost use Rattle.radix.specs.Octets.{numbers_of, eight, bytes_of};
-ghost use Rattle.capture.specs.Answers.{filed};
-ghost use Rattle.capture.specs.Calls.{Writes};
 ghost use Rattle.capture.specs.Parts.{size_of, too_long, fitting, finished};
 
-use crate::Filed;
+use paper::Refusal;
 
 // Frames that a file of 65,536 bytes has room for.
 const ROOM: usize = (paper::MOST_BYTES - crate::TRAILER_BYTES) / 8;
@@ -16,27 +15,23 @@ const ROOM: usize = (paper::MOST_BYTES - crate::TRAILER_BYTES) / 8;
 fn goes_in(count: usize, notes: usize, room: usize) -> bool
     ensures { result ≡ not (too_long count notes room) }
 {
-    if ROOM < count {
-        return false;
-    }
-    if paper::MOST_BYTES - crate::TRAILER_BYTES - count * 8 < notes {
-        return false;
-    }
-    count * 8 + notes + crate::TRAILER_BYTES <= room
+    count <= ROOM
+        && notes <= paper::MOST_BYTES - crate::TRAILER_BYTES - count * 8
+        && count * 8 + notes + crate::TRAILER_BYTES <= room
 }
 
 // Its length, or the refusal.
-pub(crate) fn fit(count: usize, notes: usize, room: usize) -> Filed
-    ensures { filed result ≡ fitting count notes room }
+pub(crate) fn fit(count: usize, notes: usize, room: usize) -> Result<usize, Refusal>
+    ensures { answer result ≡ fitting count notes room }
 {
     let goes = goes_in(count, notes, room);
     if !goes {
-        return Filed::Refused(paper::UNFIT);
+        return Err(Refusal::Unfit);
     }
     if crate::MOST_FRAMES < count {
-        return Filed::Refused(crate::TOO_MANY_FRAMES);
+        return Err(Refusal::TooManyFrames);
     }
-    Filed::Length(count * 8 + notes + crate::TRAILER_BYTES)
+    Ok(count * 8 + notes + crate::TRAILER_BYTES)
 }
 
 // A frame in the eight bytes that are its place.
@@ -52,23 +47,9 @@ pub(crate) fn put_frames(frames: &[u64], out: &mut [u8])
     requires { length frames.now * 8 ≤ length out.old }
     ensures { out.new ≡ bytes_of frames.now over out.old }
 {
-    let mut n = 0;
-    while n < frames.len() {
+    for (n, frame) in frames.iter().enumerate() {
         let at = n * 8;
-        put_frame(&mut out[at..at + 8], frames[n]);
-        n += 1;
-    }
-}
-
-// Bytes at the start of a lent output.
-pub(crate) fn copy(from: &[u8], to: &mut [u8])
-    requires { length from.now ≤ length to.old }
-    ensures { to.new ≡ from.now over to.old }
-{
-    let mut i = 0;
-    while i < from.len() {
-        to[i] = from[i];
-        i += 1;
+        put_frame(&mut out[at..at + 8], *frame);
     }
 }
 
@@ -79,7 +60,7 @@ pub(crate) fn finish(lane: u32, count: usize, notes: &[u8], out: &mut [u8])
 {
     let from = count * 8;
     let to = from + notes.len();
-    copy(notes, &mut out[from..to]);
+    out[from..to].copy_from_slice(notes);
     crate::trailer::put(
         &mut out[to..to + crate::TRAILER_BYTES],
         lane,
@@ -88,29 +69,12 @@ pub(crate) fn finish(lane: u32, count: usize, notes: &[u8], out: &mut [u8])
     );
 }
 
-// The file in an output that it fits, or all as it was where it does not.
-pub(crate) fn fill(fits: Filed, lane: u32, frames: &[u64], notes: &[u8], out: &mut [u8]) -> Filed
-    requires { filed fits ≡ fitting (length frames.now) (length notes.now) (length out.old) }
-    ensures { Writes lane frames.now notes.now (lent out) (filed result) }
+// The first frames of a file, as many as a lent list has.
+pub(crate) fn take_frames(file: &[u8], frames: &mut [u64])
+    requires { length frames.old ≤ length file.now / 8 }
+    ensures { frames.new ≡ take (length frames.old) (numbers_of file.now) }
 {
-    match fits {
-        Filed::Length(n) => {
-            put_frames(frames, out);
-            finish(lane, frames.len(), notes, out);
-            Filed::Length(n)
-        }
-        Filed::Refused(n) => Filed::Refused(n),
-    }
-}
-
-// The first frames of a file, at the front of a lent list.
-pub(crate) fn take_frames(file: &[u8], count: usize, frames: &mut [u64])
-    requires { (count ≤ length file.now / 8) × (count ≤ length frames.old) }
-    ensures { frames.new ≡ take count (numbers_of file.now) over frames.old }
-{
-    let mut n = 0;
-    while n < count {
-        frames[n] = octets::number(file, n);
-        n += 1;
+    for (n, frame) in frames.iter_mut().enumerate() {
+        *frame = octets::number(file, n);
     }
 }

@@ -14,12 +14,12 @@ use borrow.Author.Tests.{ltb-true, ltb-false}
 use lib.Dec.{ltb}
 use lib.ListN.{length, take, drop}
 use lib.Seq.{take_at, drop_at}
-use Rattle.paper.specs.Numbers.{unfit, most_bytes}
+use Rattle.paper.specs.Numbers.{no_tag, disagreeing, too_many_frames, unfit, most_bytes}
 use Rattle.laws.specs.Bits.{Octets}
 use Rattle.radix.specs.Octets.{numbers_of, bytes_of}
 use Rattle.radix.proofs.Stored.{length_bytes, numbers_back}
 use Rattle.filing.specs.File.{most_frames, Capture, contents, file_of, Writable, Holds}
-use Rattle.filing.specs.Refused.{no_tag, disagreeing, too_many_frames, Refuses, over_size, without_tag, disagree, too_many}
+use Rattle.filing.specs.Refused.{Refuses, over_size, without_tag, disagree, too_many}
 use Rattle.filing.specs.Claims.{OneCapture, SaidByOne, HeldOrRefused, OneRefusal, OnlyRefused, NothingMakes, OverLimits}
 use Rattle.filing.proofs.Trailer.{mark, marks_of_lem}
 use Rattle.filing.proofs.Captures.{file_trailed, file_points, makes}

@@ -18,10 +18,10 @@ use native.Mathlib.Omega.{arith}
 use borrow.Author.Tests.{ltb-true, ltb-false, leb-true, leb-false, eqb-true, eqb-false}
 use lib.Dec.{leb, ltb, eqb}
 use lib.ListN.{length}
-use Rattle.paper.specs.Numbers.{most_bytes}
+use Rattle.paper.specs.Numbers.{no_tag, disagreeing, too_many_frames, most_bytes}
 use Rattle.laws.specs.Bits.{Octets}
 use Rattle.filing.specs.File.{most_frames, Capture, Holds}
-use Rattle.filing.specs.Refused.{no_tag, disagreeing, too_many_frames, Trailed, PointsBack, Refuses, without_tag, disagree, too_many}
+use Rattle.filing.specs.Refused.{Trailed, PointsBack, Refuses, without_tag, disagree, too_many}
 use Rattle.filing.proofs.Trailer.{tag_number, mark, marks_of_lem, trailed}
 use Rattle.filing.proofs.Captures.{makes}
 

@@ -12,8 +12,9 @@ use lib.Seq.{drop_at, length-take-le, get_or-take}
 use Rattle.laws.specs.Bits.{Octets}
 use Rattle.radix.specs.Octets.{joined, in_bytes, eight, bytes_of}
 use Rattle.radix.proofs.Joined.{joined_second}
+use Rattle.paper.specs.Numbers.{no_tag, disagreeing}
 use Rattle.filing.specs.File.{tag, trailer, contents, file_of}
-use Rattle.filing.specs.Refused.{no_tag, disagreeing, Trailed, PointsBack, Refuses, over_size, without_tag, disagree, too_many}
+use Rattle.filing.specs.Refused.{Trailed, PointsBack, Refuses, over_size, without_tag, disagree, too_many}
 use Rattle.filing.specs.Claims.{tag_of, Only21, Only22, AnExample}
 use Rattle.filing.proofs.Trailer.{tag_number, mark, marks_of_lem, marks_are, octets_drop, trailed}
 

@@ -17,11 +17,11 @@
 -- │ AnExample     │ the bytes of a small capture, in order                         │
 -- └───────────────┴────────────────────────────────────────────────────────────────┘
 use Rattle.std.specs.Prelude.{◌≡◌, List, [], ◌∷◌, ◌⊎◌, ℕ, ◌-◌, ◌*◌, ◌<◌, ◌≤◌, length, take, drop}
-use Rattle.paper.specs.Numbers.{unfit, most_bytes}
+use Rattle.paper.specs.Numbers.{no_tag, disagreeing, too_many_frames, unfit, most_bytes}
 use Rattle.laws.specs.Bits.{Octets}
 use Rattle.radix.specs.Octets.{joined}
 use Rattle.filing.specs.File.{most_frames, tag, Capture, kept, file_of, Writable, Holds}
-use Rattle.filing.specs.Refused.{no_tag, disagreeing, too_many_frames, Refuses}
+use Rattle.filing.specs.Refused.{Refuses}
 
 abbrev pub OneCapture : Type 0
 OneCapture = (c d : Capture) → Writable c → Writable d → file_of c ≡ file_of d → c ≡ d

@@ -1,9 +1,5 @@
 -- Which bytes are refused as a capture file, and with which number.
--- ┌─────────────────┬────┬───────────────────────────────────────────────────────────┐
--- │ no_tag           │ 21 │ no such tag, or under 24 bytes                            │
--- │ disagreeing     │ 22 │ the numbers of the trailer disagree with the file         │
--- │ too_many_frames   │ 23 │ over 8,000 frames                                         │
--- ├─────────────────┼────┴───────────────────────────────────────────────────────────┤
+-- ┌─────────────────┬────────────────────────────────────────────────────────────────┐
 -- │ Trailed bs      │ bs ends in a trailer: what stands ahead of it, and its three   │
 -- │                 │ numbers                                                        │
 -- │ PointsBack t    │ its distance is the length of what stands ahead, and at least  │
@@ -12,17 +8,8 @@
 -- │                 │ each is given only where those before it are not               │
 -- └─────────────────┴────────────────────────────────────────────────────────────────┘
 use Rattle.std.specs.Prelude.{◌≡◌, List, ◌++◌, ℕ, ◌*◌, ◌^◌, ◌<◌, ◌≤◌, length}
-use Rattle.paper.specs.Numbers.{unfit, most_bytes}
+use Rattle.paper.specs.Numbers.{unfit, no_tag, disagreeing, too_many_frames, most_bytes}
 use Rattle.filing.specs.File.{most_frames, trailer}
-
-abbrev pub no_tag : ℕ
-no_tag = 21
-
-abbrev pub disagreeing : ℕ
-disagreeing = 22
-
-abbrev pub too_many_frames : ℕ
-too_many_frames = 23
 
 pub record Trailed (bs : List ℕ) : Type 0 where
   pub ahead : List ℕ

@@ -11,4 +11,4 @@ returns-then-n-lt-TRAILER_BYTES c = (without_tag refl c.if-n-gt-MOST_BYTES.false
 
 pub returns : goal.returns
 returns c =
-    judged_heads c.args.file.now (λ i. (c.shared_slice_known-1.given i).fits) c.if-n-gt-MOST_BYTES.false c.if-n-lt-TRAILER_BYTES.false _ c.label.ensures
+    judged_heads c.args.file.now (λ i. omega (arith, c.type_inv.file i)) c.if-n-gt-MOST_BYTES.false c.if-n-lt-TRAILER_BYTES.false _ c.label.ensures

@@ -9,13 +9,13 @@ use Rattle.capture.proofs.Calls.{Opened, opened, notes_read}
 use Rattle.capture.proofs.notes.Goals as goal
 
 pub overflow_sub-to : goal.overflow_sub-to
-overflow_sub-to c = omega (arith, ((let it : Opened c.args.file.now c.in-Found.h = opened _ c.in-Found.h c.in-Found.ensures in it)).room)
+overflow_sub-to c = omega (arith, (opened _ c.in-Ok.h c.in-Ok.ensures).room)
 
-pub returns-in-Found : goal.returns-in-Found
-returns-in-Found c =
+pub returns-in-Ok : goal.returns-in-Ok
+returns-in-Ok c =
     let f = c.args.file in
-    let n = c.in-Found.h.count in
-    let w = (let it : Opened c.args.file.now c.in-Found.h = opened _ c.in-Found.h c.in-Found.ensures in it) in
+    let n = c.in-Ok.h.count in
+    let w : Opened f.now c.in-Ok.h = opened _ c.in-Ok.h c.in-Ok.ensures in
     inl (
       w.capture,
       w.holds,
@@ -26,7 +26,7 @@ returns-in-Found c =
     )
 
 pub slice_bounds-result-count : goal.slice_bounds-result-count
-slice_bounds-result-count c = omega (arith, (let it : Opened c.args.file.now c.in-Found.h = opened _ c.in-Found.h c.in-Found.ensures in it).room)
+slice_bounds-result-count c = omega (arith, (opened _ c.in-Ok.h c.in-Ok.ensures).room)
 
 pub slice_bounds-result-start : goal.slice_bounds-result-start
-slice_bounds-result-start c = omega (arith, (let it : Opened c.args.file.now c.in-Found.h = opened _ c.in-Found.h c.in-Found.ensures in it).room)
+slice_bounds-result-start c = omega (arith, (opened _ c.in-Ok.h c.in-Ok.ensures).room)

@@ -1,30 +1,42 @@
 -- `capture::bytes::read_bytes` meets its contract, as `read` does, with the frames' bytes copied as they stand.
 use mathlib.Core.Path.{◌≡◌, refl, sym, ap, ◌∙◌}
-use mathlib.Core.Bool.{true}
-use mathlib.Core.List.{List}
-use Prim.Native.Nat.{ℕ}
+use Prim.Native.Nat.{◌*◌, ◌≤◌}
 use native.Mathlib.Omega.{arith}
-use borrow.Author.Tests.{le-leb, eq-eqb}
+use lib.ListN.{length}
 use lib.Seq.{length-take-le}
-use Rattle.laws.specs.Lent.{◌over◌}
-use Rattle.capture.specs.Calls.{fits_bytes}
-use Rattle.capture.proofs.Calls.{Opened, opened, bytes_read, lent_fits}
+use Rattle.std.proofs.lemmas.Result.{err_from_is_err_and}
+use Rattle.radix.specs.Octets.{bytes_of}
+use Rattle.radix.proofs.Stored.{length_bytes}
+use Rattle.capture.specs.declared.Label.{Label}
+use Rattle.capture.proofs.Fronts.{front_over}
+use Rattle.capture.proofs.Calls.{Opened, opened, bytes_read, enough_bytes, lent_fits}
 use Rattle.capture.proofs.bytes.read_bytes.Goals as goal
 
-pub slice_bounds-copy-end : goal.slice_bounds-copy-end
-slice_bounds-copy-end c = sym ((length-take-le _ _ (omega (arith, ((let it : Opened c.args.file.now c.in-Found.h = opened _ c.in-Found.h c.in-Found.ensures in it)).room))))
+pub returns-in_err-h : goal.returns-in_err-h
+returns-in_err-h c =
+    let p = err_from_is_err_and c.from_residual.result c.from_residual.ensures.1 in
+    rw (p.1, p.2) (lent_fits _ _ (enough_bytes c.args.frames.now c.if-frames-ne0.false c.if-frames.false) c.in_err-h.ensures, refl)
 
-pub returns-in-Found : goal.returns-in-Found
-returns-in-Found c =
-    let w = (let it : Opened c.args.file.now c.in-Found.h = opened _ c.in-Found.h c.in-Found.ensures in it) in (
-      (let it : fits_bytes c.args.frames.now ≡ true = simp (eq-eqb _ _ c.if-frames-ne0.false, le-leb _ _ c.if-frames.false) in it),
+pub slice_bounds-copy_from_slice-end-3 : goal.slice_bounds-copy_from_slice-end-3
+slice_bounds-copy_from_slice-end-3 c = sym (length-take-le _ _ (omega (arith, (opened _ c.in_ok-h.h c.in_ok-h.ensures).room)))
+
+pub copy_from_slice-requires : goal.copy_from_slice-requires
+copy_from_slice-requires c =
+    let w = opened _ c.in_ok-h.h c.in_ok-h.ensures in
+    length-take-le _ _ (omega (arith, w.few, c.if-frames.false)) ∙ sym (length-take-le _ _ (omega (arith, w.room)))
+
+pub returns : goal.returns
+returns c =
+    let w : Opened c.args.file.now c.in_ok-h.h = opened _ c.in_ok-h.h c.in_ok-h.ensures in
+    let o = c.args.frames.now in
+    let n = c.in_ok-h.h.count in
+    let fs = w.capture.frames in
+    let many : n * 8 ≡ length (bytes_of fs) = ap (λ (h : Label). h.count * 8) w.label ∙ sym (length_bytes fs) in
+    let room : n * 8 ≤ length o = omega (arith, w.few, c.if-frames.false) in (
+      enough_bytes o c.if-frames-ne0.false c.if-frames.false,
       (
         w.capture,
         w.holds,
-        (w.label, c.copy.ensures ∙ ap (λ (l : List ℕ). l over c.args.frames.now) (bytes_read w)),
+        (w.label, front_over _ (bytes_of fs) o (n * 8) (c.copy_from_slice.ensures.after ∙ bytes_read w) many (omega arith)),
       ),
     )
-
-pub returns-in-Refused : goal.returns-in-Refused
-returns-in-Refused c =
-    (lent_fits _ c.in-Refused.n ((let it : fits_bytes c.args.frames.now ≡ true = simp (eq-eqb _ _ c.if-frames-ne0.false, le-leb _ _ c.if-frames.false) in it)) c.in-Refused.ensures, refl)

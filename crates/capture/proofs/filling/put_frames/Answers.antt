@@ -3,8 +3,8 @@ use mathlib.Core.Path.{◌≡◌, sym, ap, ◌∙◌}
 use mathlib.Core.List.{List, ◌++◌}
 use Prim.Native.Nat.{ℕ, ◌+◌, ◌-◌, ◌*◌, ◌≤◌, ◌<◌}
 use native.Mathlib.Omega.{arith}
-use lib.ListN.{length, get_or, take, drop, length-take, length-drop}
-use lib.Seq.{length-take-le, take-length}
+use lib.ListN.{length, get_or, take, drop}
+use lib.Seq.{length-take-le}
 use Rattle.laws.specs.Lent.{◌over◌}
 use Rattle.laws.proofs.Writing.{over_none, over_length}
 use Rattle.radix.specs.Octets.{eight, bytes_of}
@@ -38,23 +38,8 @@ module _ {fs o₀ o : List ℕ} {n : ℕ} (l : Laid fs o₀ n o) where
 pub loop-n-init : goal.loop-n-init
 loop-n-init c = none _ _
 
-pub bounds-frames-n : goal.bounds-frames-n
-bounds-frames-n c = omega arith
-
-pub put_frame-requires : goal.put_frame-requires
-put_frame-requires c = simp (length-take, length-drop) (omega (arith, size c.loop-n.invariant))
-
-pub loop-n-smaller : goal.loop-n-smaller
-loop-n-smaller c = omega arith
-
 pub loop-n-preserved : goal.loop-n-preserved
 loop-n-preserved c =
     let p = c.put_frame in
     more c.loop-n.invariant p.new.place (c.loop-n.n * 8 + 8 - c.loop-n.n * 8) (omega arith) p.ensures
     c.loop-n-test.true c.requires
-
-pub returns : goal.returns
-returns c =
-    let fs = c.args.frames.now in
-    let e : c.loop-n.n ≡ length fs = omega (arith, c.loop-n.invariant.fits, c.loop-n-test.false) in
-    c.loop-n.invariant.is ∙ ap (λ (xs : List ℕ). bytes_of xs over c.args.out.now) (ap (λ (n : ℕ). take n fs) e ∙ take-length fs)

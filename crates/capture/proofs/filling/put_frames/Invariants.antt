@@ -1,7 +1,7 @@
 -- `capture::filling::put_frames` meets its contract: after n turns the bytes of the first n frames stand at the front.
 use mathlib.Core.Path.{◌≡◌}
 use mathlib.Core.List.{List}
-use Prim.Native.Nat.{ℕ, ◌-◌, ◌≤◌}
+use Prim.Native.Nat.{ℕ, ◌≤◌}
 use lib.ListN.{length, take}
 use Rattle.laws.specs.Lent.{◌over◌}
 use Rattle.radix.specs.Octets.{bytes_of}
@@ -13,6 +13,3 @@ pub record Laid (fs o₀ : List ℕ) (n : ℕ) (o : List ℕ) : Type 0 where
 
 abbrev pub invariant-loop-n : goal.invariant-loop-n
 invariant-loop-n l = Laid l.frames l.initial.out l.n l.out
-
-abbrev pub decreases-loop-n : goal.decreases-loop-n
-decreases-loop-n l = length l.frames - l.n

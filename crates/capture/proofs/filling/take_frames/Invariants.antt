@@ -1,11 +1,7 @@
 -- `capture::filling::take_frames` meets its contract: after n turns the first n frames stand at the front.
-use Prim.Native.Nat.{◌-◌, ◌≤◌}
 use Rattle.radix.specs.Octets.{numbers_of}
 use Rattle.capture.proofs.Fronts.{Upto}
 use Rattle.capture.proofs.filling.take_frames.Given as goal
 
 abbrev pub invariant-loop-n : goal.invariant-loop-n
-invariant-loop-n l = (l.n ≤ l.count) × Upto (numbers_of l.file) l.initial.frames l.n l.frames
-
-abbrev pub decreases-loop-n : goal.decreases-loop-n
-decreases-loop-n l = l.count - l.n
+invariant-loop-n l = Upto (numbers_of l.file) l.initial.frames l.n l.frames

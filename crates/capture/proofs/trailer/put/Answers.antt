@@ -26,7 +26,9 @@ three o l n d e h =
 
 pub returns : goal.returns
 returns c =
+    let a = c.args in
     c.store-3.ensures
-    ∙ ap (λ (o : List ℕ). stored o 2 c.args.distance) c.store-2.ensures
-    ∙ ap (λ (o : List ℕ). stored (stored o 1 c.args.count) 2 c.args.distance) c.store.ensures
-    ∙ three c.args.place.now c.args.lane c.args.count c.args.distance c.requires (omega arith)
+    ∙ ap (λ (o : List ℕ). stored o 2 a.distance) c.store-2.ensures
+    ∙ ap (λ (o : List ℕ). stored (stored o 1 a.count) 2 a.distance) c.store.ensures
+    ∙ ap (λ (l : ℕ). stored (stored (stored a.place.now 0 (marked l)) 1 a.count) 2 a.distance) c.from.ensures
+    ∙ three a.place.now a.lane a.count a.distance c.requires (omega arith)

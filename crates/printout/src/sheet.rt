@@ -1,9 +1,7 @@
 // An output that a text is put into, piece after piece.
 ghost use Rattle.std.specs.Prelude.{◌≡◌, ◌++◌, ◌+◌, ◌≤◌, length};
-ghost use Rattle.wording.specs.Text.{ascii, decimal, accepted_lines, refused_lines};
+ghost use Rattle.wording.specs.Text.{ascii, decimal};
 ghost use Rattle.printout.specs.Parts.{Lays};
-
-use tally::Tally;
 
 // The text ends before place `at`.
 #[derive(Drop)]
@@ -51,26 +49,5 @@ impl<'a> Sheet<'a> {
     {
         self.named(name, n);
         self.put(b"\n");
-    }
-
-    // The lines of the frames that were read, 77 bytes at most.
-    pub(crate) fn accepted_lines(&mut self, t: Tally)
-        requires { self.old.at + 77 ≤ length self.old.out.now }
-        ensures lays { Lays self.old (accepted_lines t) self.new }
-        ensures upper_bound { self.new.at ≤ self.old.at + 77 }
-    {
-        self.line(b"clean ", t.clean);
-        self.line(b"one ", t.one);
-        self.line(b"two ", t.two);
-    }
-
-    // The lines of those that were not, 61 bytes at most.
-    pub(crate) fn refused_lines(&mut self, t: Tally)
-        requires { self.old.at + 61 ≤ length self.old.out.now }
-        ensures lays { Lays self.old (refused_lines t) self.new }
-        ensures upper_bound { self.new.at ≤ self.old.at + 61 }
-    {
-        self.line(b"no-word ", t.no_word);
-        self.line(b"run-broken ", t.run_broken);
     }
 }

@@ -1,7 +1,7 @@
 -- `accepted_lines` lays its lines one after another.
 use Rattle.wording.specs.Text.{ascii, line, accepted_lines}
 use Rattle.printout.proofs.Laying.{then}
-use Rattle.printout.proofs.sheet.Sheet.accepted_lines.Goals as goal
+use Rattle.printout.proofs.accepted_lines.Goals as goal
 
 pub returns-clause-lays : goal.returns-clause-lays
 unfolding ascii line accepted_lines

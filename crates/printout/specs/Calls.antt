@@ -11,12 +11,13 @@
 -- │   c o₀ s o      │ length and how many have been told with it; where nothing is │
 -- │                 │ left no line, and c                                          │
 -- └─────────────────┴──────────────────────────────────────────────────────────────┘
-use Rattle.std.specs.Prelude.{◌≡◌, List, ℕ, ◌+◌, length, drop}
+use Rattle.std.specs.Prelude.{◌≡◌, List, ℕ, ◌+◌, length, drop, None, Some}
 use Rattle.io.specs.Counts.{IsPrefixLen}
 use Rattle.laws.specs.Lent.{◌over◌}
 use Rattle.lane.specs.declared.Totals.{Totals}
+use Rattle.std.specs.declared.option.Option.{Option}
 use Rattle.wording.specs.declared.Notice.{Notice}
-use Rattle.wording.specs.declared.Notice.TheVariants.{Altered, Refused, Nothing}
+use Rattle.wording.specs.declared.Notice.TheVariants.{Altered, Refused}
 use Rattle.wording.specs.Text.{text}
 use Rattle.wording.specs.Account.{next_notice, notice_line}
 use Rattle.printout.specs.declared.account.Told.{Told}
@@ -32,13 +33,13 @@ pub record Prints (p : List ℕ) (o₀ : List ℕ) (n : ℕ) (o : List ℕ) : Ty
   pub bytes : o ≡ p over o₀
   pub room : IsPrefixLen n o
 
-abbrev pub notice_at : List ℕ → List ℕ → List ℕ → Told → Notice
+abbrev pub notice_at : List ℕ → List ℕ → List ℕ → Told → Option Notice
 notice_at is ps rs c = next_notice (drop c.altered is) (drop c.altered ps) (drop c.refused rs)
 
-abbrev pub told_with : Notice → Told → Told
-told_with (Altered i p) c = record { altered = c.altered + 1; refused = c.refused }
-told_with (Refused i) c = record { altered = c.altered; refused = c.refused + 1 }
-told_with Nothing c = c
+abbrev pub told_with : Option Notice → Told → Told
+told_with (Some (Altered i p)) c = record { altered = c.altered + 1; refused = c.refused }
+told_with (Some (Refused i)) c = record { altered = c.altered; refused = c.refused + 1 }
+told_with None c = c
 
 pub record Tells (is ps rs : List ℕ) (c : Told) (o₀ : List ℕ) (s : Step) (o : List ℕ) : Type 0 where
   pub told : s.told ≡ told_with (notice_at is ps rs c) c

@@ -14,30 +14,32 @@ use Prim.Native.Nat.{ℕ, zero, suc, ◌+◌, ◌≤◌}
 use native.Mathlib.Omega.{arith}
 use lib.Dec.{leb}
 use lib.ListN.{length, drop, length-drop}
+use Rattle.std.specs.Prelude.{None, Some}
+use Rattle.std.specs.declared.option.Option.{Option}
 use Rattle.wording.specs.declared.Notice.{Notice}
-use Rattle.wording.specs.declared.Notice.TheVariants.{Altered, Refused, Nothing}
+use Rattle.wording.specs.declared.Notice.TheVariants.{Altered, Refused}
 use Rattle.wording.specs.Text.{ascii, line}
 use Rattle.wording.specs.Account.{altered_line, next_notice, notice_line, alters_one, refuses_one, first_lines, account_lines}
 
-pub one_or_none : (x : Notice) → (x ≡ Nothing) ⊎ (alters_one x + refuses_one x ≡ 1)
-one_or_none (Altered i p) = inr refl
-one_or_none (Refused i) = inr refl
-one_or_none Nothing = inl refl
+pub one_or_none : (x : Option Notice) → (x ≡ None) ⊎ (alters_one x + refuses_one x ≡ 1)
+one_or_none (Some (Altered i p)) = inr refl
+one_or_none (Some (Refused i)) = inr refl
+one_or_none None = inl refl
 
-pub no_line : (x : Notice) → length (notice_line x) ≡ 0 → x ≡ Nothing
+pub no_line : (x : Option Notice) → length (notice_line x) ≡ 0 → x ≡ None
 unfolding ascii line altered_line notice_line
-no_line (Altered i p) e = absurd (omega arith)
-no_line (Refused i) e = absurd (omega arith)
-no_line Nothing e = refl
+no_line (Some (Altered i p)) e = absurd (omega arith)
+no_line (Some (Refused i)) e = absurd (omega arith)
+no_line None e = refl
 
-abbrev Has : List ℕ → List ℕ → Notice → Type 0
+abbrev Has : List ℕ → List ℕ → Option Notice → Type 0
 Has is rs x = (alters_one x ≤ length is) × (refuses_one x ≤ length rs)
 
 pub is_there : (is ps rs : List ℕ) → Has is rs (next_notice is ps rs)
 unfolding next_notice
 is_there (i ∷ is) (p ∷ ps) (r ∷ rs) = either (leb i r)
   where
-    either : (b : Bool) → Has (i ∷ is) (r ∷ rs) (cond b (Altered i p) (Refused r))
+    either : (b : Bool) → Has (i ∷ is) (r ∷ rs) (Some (cond b (Altered i p) (Refused r)))
     either true = (omega arith, omega arith)
     either false = (omega arith, omega arith)
 is_there (i ∷ is) (p ∷ ps) [] = (omega arith, omega arith)
@@ -47,21 +49,21 @@ is_there [] ps (r ∷ rs) = (omega arith, omega arith)
 is_there [] ps [] = (omega arith, omega arith)
 
 module _ (is ps rs : List ℕ) where
-  none : (k : ℕ) → next_notice is ps rs ≡ Nothing → first_lines k is ps rs ≡ []
+  none : (k : ℕ) → next_notice is ps rs ≡ None → first_lines k is ps rs ≡ []
   unfolding notice_line first_lines
   none zero e = refl
   none (suc k) e =
-      ap (λ (x : Notice). notice_line x ++ first_lines k (drop (alters_one x) is) (drop (alters_one x) ps) (drop (refuses_one x) rs)) e
+      ap (λ (x : Option Notice). notice_line x ++ first_lines k (drop (alters_one x) is) (drop (alters_one x) ps) (drop (refuses_one x) rs)) e
       ∙ none k e
 
-  pub lines_none : next_notice is ps rs ≡ Nothing → account_lines is ps rs ≡ []
+  pub lines_none : next_notice is ps rs ≡ None → account_lines is ps rs ≡ []
   lines_none e = none (length is + length rs) e
 
   -- the line of x, and those of what it leaves
-  abbrev after : Notice → List ℕ
+  abbrev after : Option Notice → List ℕ
   after x = notice_line x ++ account_lines (drop (alters_one x) is) (drop (alters_one x) ps) (drop (refuses_one x) rs)
 
-  one_fewer : (x : Notice) → Has is rs x → alters_one x + refuses_one x ≡ 1
+  one_fewer : (x : Option Notice) → Has is rs x → alters_one x + refuses_one x ≡ 1
       → length is + length rs ≡ suc (length (drop (alters_one x) is) + length (drop (refuses_one x) rs))
   one_fewer x h o = omega (arith, length-drop (alters_one x) is, length-drop (refuses_one x) rs)
 

@@ -18,9 +18,10 @@
 -- │   rs                │                                                              │
 -- │ account n is ps rs  │ the account of n frames                                      │
 -- └─────────────────────┴──────────────────────────────────────────────────────────────┘
-use Rattle.std.specs.Prelude.{cond, List, [], ◌∷◌, ◌++◌, ℕ, zero, suc, ◌+◌, ◌/◌, ◌%◌, ltb, leb, length, drop}
+use Rattle.std.specs.Prelude.{cond, List, [], ◌∷◌, ◌++◌, ℕ, zero, suc, ◌+◌, ◌/◌, ◌%◌, ltb, leb, length, drop, None, Some}
+use Rattle.std.specs.declared.option.Option.{Option}
 use Rattle.wording.specs.declared.Notice.{Notice}
-use Rattle.wording.specs.declared.Notice.TheVariants.{Altered, Refused, Nothing}
+use Rattle.wording.specs.declared.Notice.TheVariants.{Altered, Refused}
 use Rattle.wording.specs.Text.{ascii, decimal, line}
 
 abbrev pub hex_digit : ℕ → ℕ
@@ -39,28 +40,28 @@ altered_line i p = ascii "altered " ++ decimal i ++ ascii " " ++ hex16 p ++ asci
 unfoldable pub account_head : ℕ → ℕ → ℕ → List ℕ
 account_head n a r = line "frames " n ++ line "altered " a ++ line "refused " r
 
-unfoldable pub next_notice : List ℕ → List ℕ → List ℕ → Notice
-next_notice (i ∷ is) (p ∷ ps) (r ∷ rs) = cond (leb i r) (Altered i p) (Refused r)
-next_notice (i ∷ is) (p ∷ ps) [] = Altered i p
-next_notice (i ∷ is) [] (r ∷ rs) = Refused r
-next_notice (i ∷ is) [] [] = Nothing
-next_notice [] ps (r ∷ rs) = Refused r
-next_notice [] ps [] = Nothing
+unfoldable pub next_notice : List ℕ → List ℕ → List ℕ → Option Notice
+next_notice (i ∷ is) (p ∷ ps) (r ∷ rs) = Some (cond (leb i r) (Altered i p) (Refused r))
+next_notice (i ∷ is) (p ∷ ps) [] = Some (Altered i p)
+next_notice (i ∷ is) [] (r ∷ rs) = Some (Refused r)
+next_notice (i ∷ is) [] [] = None
+next_notice [] ps (r ∷ rs) = Some (Refused r)
+next_notice [] ps [] = None
 
-unfoldable pub notice_line : Notice → List ℕ
-notice_line (Altered i p) = altered_line i p
-notice_line (Refused i) = line "refused " i
-notice_line Nothing = []
+unfoldable pub notice_line : Option Notice → List ℕ
+notice_line (Some (Altered i p)) = altered_line i p
+notice_line (Some (Refused i)) = line "refused " i
+notice_line None = []
 
-abbrev pub alters_one : Notice → ℕ
-alters_one (Altered i p) = 1
-alters_one (Refused i) = 0
-alters_one Nothing = 0
+abbrev pub alters_one : Option Notice → ℕ
+alters_one (Some (Altered i p)) = 1
+alters_one (Some (Refused i)) = 0
+alters_one None = 0
 
-abbrev pub refuses_one : Notice → ℕ
-refuses_one (Altered i p) = 0
-refuses_one (Refused i) = 1
-refuses_one Nothing = 0
+abbrev pub refuses_one : Option Notice → ℕ
+refuses_one (Some (Altered i p)) = 0
+refuses_one (Some (Refused i)) = 1
+refuses_one None = 0
 
 unfoldable pub first_lines : ℕ → List ℕ → List ℕ → List ℕ → List ℕ
 first_lines zero is ps rs = []

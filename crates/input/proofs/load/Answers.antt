@@ -1,30 +1,24 @@
-use Rattle.std.proofs.Common.{rules, ◌≡◌, ℕ, ◌≤◌, List, length, sym, ap, ◌∙◌, refl, subst}
-use Rattle.std.proofs.Math.Seq.{length-take-le}
-use Rattle.input.specs.Calls.{Fits}
-use Rattle.input.specs.declared.Input.{Input}
-use Rattle.input.specs.declared.Input.TheVariants.{Full, Last, Failed}
-use Rattle.input.specs.declared.Step.TheVariants.{Over}
-use Rattle.input.proofs.Stepped.{more, last}
+-- What is there is what the reader gave so far.
+use Rattle.std.proofs.Common.{◌≡◌, ℕ, ◌+◌, ◌≤◌, List, ◌++◌, length, take, rules, sym, ap, ◌∙◌, subst, length-take-le}
+use Rattle.std.proofs.Math.Seq.{take-append-add, take-append-le}
+use Rattle.std.proofs.KnownBytes.{Consumes-trans}
+use Rattle.std.specs.Io.KnownBytes.{Consumes}
+use borrow.Rule.Slice.PartMut.{put_mid, post_of}
 use Rattle.input.proofs.load.Goals as goal
 
--- an answer that counts no more than the bytes that were there
-fits : (i : Input) (have : ℕ) (bs : List ℕ) → ((k : ℕ) → i ≡ Last k → have ≡ k) → have ≤ length bs → Fits i bs
-fits Full have bs e h = tt
-fits (Last k) have bs e h =
-    let l : k ≤ length bs = subst (λ (n : ℕ). n ≤ length bs) (e k refl) h in
-    (l, sym (length-take-le k bs l))
-fits Failed have bs e h = tt
-
-pub loop-have-smaller : goal.loop-have-smaller
-loop-have-smaller g c =
-    let m = more _ _ _ _ _ (sym c.in-More.ensures) (search rules) in
-    search rules
+-- n bytes of a read stand after those that were there
+read_on : (at k n : ℕ) (xs ys : List ℕ) → at ≤ length xs → n ≤ length ys → take at xs ++ take n ys ≡ take (at + n) (put_mid at k xs ys)
+read_on at k n xs ys h fits =
+    sym
+    (ap (λ m. take (m + n) (put_mid at k xs ys)) (sym (length-take-le at xs h))
+    ∙ take-append-add (take at xs) (ys ++ post_of at k xs) n
+    ∙ ap (λ l. take at xs ++ l) (take-append-le n ys (post_of at k xs) fits))
 
 pub loop-have-preserved : goal.loop-have-preserved
 loop-have-preserved g c =
-    let m = more _ _ _ _ _ (sym c.in-More.ensures) (search rules) in
-    search rules
-
-pub returns-in-Over : goal.returns-in-Over
-returns-in-Over g c =
-    fits _ c.loop-have.have _ (λ k e. last _ _ _ _ _ (sym c.in-Over.ensures ∙ ap Over e)) (search rules)
+    let l = c.loop-have in
+    let r = c.in_ok-n.ensures in (
+      search rules,
+      subst (Consumes _ _) (read_on l.have _ c.in_ok-n.n l.buffer c.read.new.buf l.invariant.0 r.bound.0)
+          (Consumes-trans _ _ _ _ _ l.invariant.1 r.bytes.0),
+    )

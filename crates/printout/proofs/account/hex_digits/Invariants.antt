@@ -8,6 +8,3 @@ use Rattle.printout.proofs.account.hex_digits.Given as goal
 
 abbrev pub invariant-loop-i : goal.invariant-loop-i
 invariant-loop-i l = (l.i ≤ 16) × (length l.digits ≡ 16) × (hex_spelled l.i l.rest ++ drop l.i l.digits ≡ hex16 l.p)
-
-abbrev pub decreases-loop-i : goal.decreases-loop-i
-decreases-loop-i l = l.i

@@ -1,4 +1,4 @@
-// What lists show of a frame.
+// What lists show of a frame. It is not taken from a `Word`: to count the flips of an enum costs a frame with flips 13 to 24 instructions.
 ghost use Rattle.std.specs.Prelude.{◌≡◌};
 ghost use Rattle.paper.specs.Answer.{code, refused};
 ghost use Rattle.decoding.specs.Found.{flag};
@@ -24,6 +24,7 @@ pub struct Sight {
     pub checks: u8,
 }
 
+// 1 for wrong.
 fn flag_of(wrong: bool) -> u8
     ensures { result ≡ flag wrong }
 {

@@ -35,7 +35,7 @@ use Rattle.frame.proofs.Frames.{word_padded}
 use Rattle.frame.specs.Sums.{run_sums, sums}
 use Rattle.tables.specs.Tables.{entry_of, MendTable, ByteSums}
 use Rattle.frame.proofs.Sums.{all_right_lem, runs_xor, sums_low, sums_high}
-use Rattle.tables.proofs.Tables.{frame_sums, frame_sums_xor, mend_entry}
+use Rattle.tables.proofs.Rules.{frame_sums, frame_sums_xor, mend_entry}
 use Rattle.tables.proofs.Grown.{byte_turn}
 use Rattle.decoding.specs.Found.{Found, flag, check_flips}
 use Rattle.decoding.specs.Reads.{Reads}

@@ -9,8 +9,11 @@ use mathlib.Core.List.{List, [], ◌∷◌}
 use Prim.Native.Nat.{ℕ, ◌<◌}
 use lib.Dec.{eqb}
 use lib.ListN.{length, get_or}
-use Rattle.paper.specs.Answer.{Answer}
-use Rattle.paper.proofs.Answer.{either, known_by}
+use Rattle.std.specs.Prelude.{Result, Ok, Err}
+use Rattle.paper.specs.Answer.{Answer, gives, refused}
+use Rattle.paper.specs.Answer.{answer as as_it_is}
+use Rattle.paper.specs.declared.Refusal.{Refusal}
+use Rattle.paper.proofs.Answer.{answer_one as known}
 use Rattle.laws.proofs.Writing.{one_call}
 use Rattle.radix.specs.Octets.{numbers_of}
 use Rattle.radix.proofs.Joined.{numbers_lt}
@@ -22,8 +25,6 @@ use Rattle.reader.specs.Claims.{Numbers, OneReading, OneVerdict, OneReadList, On
 use Rattle.reader.specs.declared.Flips.{Flips}
 use Rattle.reader.specs.declared.Flips.TheVariants.{Nowhere, One, Two}
 use Rattle.reader.specs.declared.Word.{Word}
-use Rattle.reader.specs.declared.Reading.{Reading}
-use Rattle.reader.specs.declared.Reading.TheVariants.{Lawful, Refused}
 use Rattle.decoding.proofs.Demands.{one_answer}
 
 -- a word by what it says
@@ -49,12 +50,17 @@ said_back w =
     flags true = refl
     flags false = refl
 
-pub answer_one : (r s : Reading) → answer r ≡ answer s → r ≡ s
-answer_one = known_by answer (either (λ r. Lawful (saying r)) Refused) back
-  where
-    back : (r : Reading) → either (λ r. Lawful (saying r)) Refused (answer r) ≡ r
-    back (Lawful w) = ap Lawful (said_back w)
-    back (Refused n) = refl
+words : Answer Found → Answer Word
+words (gives w) = gives (saying w)
+words (refused n) = refused n
+
+words_back : (r : Result Word Refusal) → words (answer r) ≡ as_it_is r
+unfolding words
+words_back (Ok w) = ap gives (said_back w)
+words_back (Err n) = refl
+
+pub answer_one : (r s : Result Word Refusal) → answer r ≡ answer s → r ≡ s
+answer_one r s e = known r s (sym (words_back r) ∙ ap words e ∙ words_back s)
 
 pub one_reading : OneReading
 one_reading f h r s p q = answer_one r s (one_answer f h (answer r) (answer s) p q)

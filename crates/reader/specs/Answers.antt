@@ -2,22 +2,21 @@
 -- ┌─────────────┬──────────────────────────────────────────────────────────────────┐
 -- │ places_of p │ the places of the flips, rising                                  │
 -- │ found w     │ what a `Word` says                                               │
--- │ answer r    │ the answer that a `Reading` is                                   │
+-- │ answer r    │ the answer of a reading                                          │
 -- │ verdict a   │ the verdict byte: how many flips, or the refusal                 │
 -- │ data_in a   │ the data of a list's place: 0 where the frame is refused         │
 -- │ pad_in a    │ the pad flag of a list's place: 0 where the frame is refused     │
 -- │ checks_in a │ the check flips of a list's place: 0 where the frame is refused  │
 -- │ sight a     │ all that lists show of an answer                                 │
 -- └─────────────┴──────────────────────────────────────────────────────────────────┘
-use Rattle.std.specs.Prelude.{List, [], ◌∷◌, ℕ, length}
-use Rattle.paper.specs.Answer.{Answer, gives, refused}
+use Rattle.std.specs.Prelude.{List, [], ◌∷◌, ℕ, length, Result, Ok, Err}
+use Rattle.paper.specs.Answer.{Answer, gives, refused, code}
+use Rattle.paper.specs.declared.Refusal.{Refusal}
 use Rattle.decoding.specs.Found.{Found, flag}
 use Rattle.reader.specs.declared.Flips.{Flips}
 use Rattle.reader.specs.declared.Flips.TheVariants.{Nowhere, One, Two}
 use Rattle.reader.specs.declared.Word.{Word}
-use Rattle.reader.specs.declared.Reading.{Reading}
 use Rattle.reader.specs.declared.sight.Sight.{Sight}
-use Rattle.reader.specs.declared.Reading.TheVariants.{Lawful, Refused}
 
 abbrev pub places_of : Flips → List ℕ
 places_of Nowhere = []
@@ -27,9 +26,9 @@ places_of (Two a b) = a ∷ b ∷ []
 abbrev pub found : Word → Found
 found w = record { «data» = w.«data»; places = places_of w.flips; checks = w.check_flips; pad = flag w.pad_wrong }
 
-abbrev pub answer : Reading → Answer Found
-answer (Lawful w) = gives (found w)
-answer (Refused n) = refused n
+abbrev pub answer : Result Word Refusal → Answer Found
+answer (Ok w) = gives (found w)
+answer (Err r) = refused (code r)
 
 abbrev pub verdict : Answer Found → ℕ
 verdict (gives w) = length w.places

@@ -1,7 +1,7 @@
 -- What is proved beside the contracts.
 -- ┌──────────────┬──────────────────────────────────────────────────────────────────┐
 -- │ ByTheTables  │ reading by lent tables that have their rules is reading          │
--- │ OneReading   │ no second `Reading` meets the contract of `read`                 │
+-- │ OneReading   │ no second answer meets the contract of `read`                    │
 -- │ OneVerdict   │ nor a second number that of a verdict                            │
 -- │ Numbers fs   │ each of fs is a 64-bit number                                    │
 -- │ OneReadList  │ nor a second answer or list that of `read_list`                  │
@@ -11,9 +11,10 @@
 -- │ ShownRefused │ and 13 or 14 where it is refused, with data 0, pad flag 0 and no │
 -- │              │ check flips                                                      │
 -- └──────────────┴──────────────────────────────────────────────────────────────────┘
-use Rattle.std.specs.Prelude.{◌≡◌, List, ◌⊎◌, ℕ, ◌^◌, ◌<◌, ◌≤◌, length, get_or}
+use Rattle.std.specs.Prelude.{◌≡◌, List, ◌⊎◌, ℕ, ◌^◌, ◌<◌, ◌≤◌, length, get_or, Result}
 use Rattle.paper.specs.Numbers.{no_word, run_broken}
 use Rattle.paper.specs.Answer.{Answer, gives, refused}
+use Rattle.paper.specs.declared.Refusal.{Refusal}
 use Rattle.laws.specs.Bits.{Octets}
 use Rattle.laws.specs.Lent.{Lent}
 use Rattle.tables.specs.Tables.{MendTable, ByteSums}
@@ -22,14 +23,14 @@ use Rattle.decoding.specs.Reads.{Reads}
 use Rattle.reader.specs.Answers.{answer, verdict, data_in, pad_in, checks_in}
 use Rattle.reader.specs.ByTables.{read_by}
 use Rattle.reader.specs.Lists.{VerdictOf, ReadsList, ReadsPads, ReadsBytes}
-use Rattle.reader.specs.declared.Reading.{Reading}
+use Rattle.reader.specs.declared.Word.{Word}
 
 abbrev pub ByTheTables : Type 0
 ByTheTables = (c b : List ℕ) → MendTable c → ByteSums b → (f : ℕ) → f < 2 ^ 64 → Reads f (read_by c b f)
 
 -- each call's contract leaves one answer
 abbrev pub OneReading : Type 0
-OneReading = (f : ℕ) → f < 2 ^ 64 → (r s : Reading) → Reads f (answer r) → Reads f (answer s) → r ≡ s
+OneReading = (f : ℕ) → f < 2 ^ 64 → (r s : Result Word Refusal) → Reads f (answer r) → Reads f (answer s) → r ≡ s
 
 abbrev pub OneVerdict : Type 0
 OneVerdict = (f : ℕ) → f < 2 ^ 64 → (v w : ℕ) → VerdictOf f v → VerdictOf f w → v ≡ w

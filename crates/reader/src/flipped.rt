@@ -6,31 +6,27 @@ ghost use Rattle.reader.specs.Answers.{places_of};
 
 use crate::Flips;
 
+#[tactic(auto, unfolding(bch::specs::Corrections::places))]
 pub(crate) fn flips_of(e: u64) -> Flips
     requires { e < 4096 }
     ensures { places_of result ≡ places e }
 {
-    let a = e / 64;
-    let b = e % 64;
-    if b == 63 {
-        if a == 63 {
-            return Flips::Nowhere;
-        }
-        return Flips::One(a);
+    match (e / 64, e % 64) {
+        (63, 63) => Flips::Nowhere,
+        (a, 63) => Flips::One(a),
+        (63, b) => Flips::One(b),
+        (a, b) => Flips::Two(a, b),
     }
-    if a == 63 {
-        return Flips::One(b);
-    }
-    Flips::Two(a, b)
 }
 
 // 1 for a place, 0 for any other number.
 fn is_place(place: u64) -> u8
     ensures { (result ≡ cond (ltb place 63) 1 0) × (result ≤ 1) }
 {
-    if place < 63 { 1 } else { 0 }
+    u8::from(place < 63)
 }
 
+#[tactic(auto, using(crate::proofs::Entries::count_places))]
 pub(crate) fn count_of(e: u64) -> u8
     ensures { result ≡ length (places e) }
 {
@@ -41,9 +37,10 @@ pub(crate) fn count_of(e: u64) -> u8
 fn is_early(place: u64) -> u8
     ensures { (result ≡ cond (ltb place 51) 1 0) × (result ≤ 1) }
 {
-    if place < 51 { 1 } else { 0 }
+    u8::from(place < 51)
 }
 
+#[tactic(auto, using(crate::proofs::Entries::count_checks))]
 pub(crate) fn check_flips_of(e: u64) -> u8
     ensures { result ≡ check_flips (places e) }
 {

@@ -2,14 +2,16 @@
 #![tactic(auto)]
 
 ghost use Rattle.std.specs.Prelude.{◌≡◌, length};
-ghost use Rattle.paper.specs.Answer.{listed};
+ghost use Rattle.paper.specs.Answer.{answer as listed};
 ghost use Rattle.laws.specs.Lent.{◌to◌};
 ghost use Rattle.reader.specs.Answers.{places_of, answer, verdict};
 ghost use Rattle.decoding.specs.Reads.{Reads};
 ghost use Rattle.reader.specs.ByTables.{read_by};
 ghost use Rattle.reader.specs.Lists.{ReadsList, ReadsPads};
+ghost use Rattle.reader.specs.Parts.{Asks};
 
-use paper::Listed;
+use paper::Refusal;
+use tables::Tables;
 
 mod bytes;
 mod flipped;
@@ -23,15 +25,28 @@ pub use bytes::read_bytes;
 pub use sight::{Sight, sight_by};
 
 // The places of the flips that were undone, the lower first.
-#[derive(Clone, Copy)]
+#[derive(Clone, Copy, Debug, PartialEq, Eq)]
 pub enum Flips {
     Nowhere,
     One(u64),
     Two(u64, u64),
 }
 
+impl Flips {
+    // How many there are.
+    pub fn count(self) -> u8
+        ensures { result ≡ length (places_of self) }
+    {
+        match self {
+            Flips::Nowhere => 0,
+            Flips::One(_) => 1,
+            Flips::Two(_, _) => 2,
+        }
+    }
+}
+
 // What a lawful word within two flips says of the frame that was received. The check flips are those in positions 51 to 62.
-#[derive(Clone, Copy)]
+#[derive(Clone, Copy, Debug, PartialEq, Eq)]
 pub struct Word {
     pub data: u64,
     pub flips: Flips,
@@ -39,74 +54,65 @@ pub struct Word {
     pub pad_wrong: bool,
 }
 
-// What reading a frame finds: a lawful word, or 13, or 14.
-#[derive(Clone, Copy)]
-pub enum Reading {
-    Lawful(Word),
-    Refused(u8),
-}
-
-// Any 64 received bits, read. Where the remainder is not 0 the table of corrections is written anew: for many frames lend the tables.
-pub fn read(frame: u64) -> Reading
+// Any 64 received bits, read: a lawful word, or 13, or 14. Where the remainder is not 0 the table of corrections is written anew: for
+// many frames lend the tables.
+#[tactic(auto, using(crate::proofs::ByTables::read_received))]
+pub fn read(frame: u64) -> Result<Word, Refusal>
     ensures { Reads frame (answer result) }
 {
     let x = sums::sums_of(frame / 2);
     if x % 4096 == 0 {
-        return said::said(mend::as_received(x, frame));
+        return said::lawful(mend::as_received(x, frame));
     }
     mend::by_own_table(x, frame)
 }
 
-// The same by tables that are lent: `corrections` and `byte_sums` of the crate tables.
-pub fn read_by(corrections: &[u16; 4096], sums: &[u16; 2048], frame: u64) -> Reading
-    ensures { answer result ≡ read_by corrections.now sums.now frame }
+// The same by tables that are lent.
+pub fn read_by(tables: &Tables, frame: u64) -> Result<Word, Refusal>
+    ensures { answer result ≡ read_by tables.now.corrections tables.now.sums frame }
 {
-    let x = sums::sums_by(sums, frame);
+    let x = sums::sums_by(&tables.sums, frame);
     // The usual frame first.
     if x == said::CLEAN {
-        return said::clean(frame);
+        return Ok(said::clean(frame));
     }
-    said::said(mend::mend_by(corrections, x, frame))
-}
-
-fn how_many(w: Word) -> u8
-    ensures { result ≡ length (places_of w.flips) }
-{
-    let flips = w.flips;
-    match flips {
-        Flips::Nowhere => 0,
-        Flips::One(_) => 1,
-        Flips::Two(_, _) => 2,
-    }
+    said::lawful(mend::mend_by(&tables.corrections, x, frame)?)
 }
 
 // The verdict byte of a reading: 0, 1 or 2 flips, 13 or 14.
-pub fn verdict_of(r: Reading) -> u8
+pub fn verdict_of(r: Result<Word, Refusal>) -> u8
     ensures { result ≡ verdict (answer r) }
 {
     match r {
-        Reading::Lawful(w) => how_many(w),
-        Reading::Refused(n) => n,
+        Ok(w) => w.flips.count(),
+        Err(e) => e.code(),
     }
 }
 
+// 12 where an output has no place for each frame.
+fn room(frames: &[u64], data: &[u64], verdicts: &[u8], checks: &[u8]) -> Result<(), Refusal>
+    ensures { Asks frames.now «data».now verdicts.now checks.now (listed result) }
+{
+    if data.len() < frames.len() || verdicts.len() < frames.len() || checks.len() < frames.len() {
+        return Err(Refusal::Unfit);
+    }
+    Ok(())
+}
+
 // The data, the verdict byte and the check flips of each frame of a list, at the front of three lent outputs.
-pub fn read_list(frames: &[u64], data: &mut [u64], verdicts: &mut [u8], checks: &mut [u8]) -> Listed
+pub fn read_list(
+    frames: &[u64],
+    data: &mut [u64],
+    verdicts: &mut [u8],
+    checks: &mut [u8],
+) -> Result<(), Refusal>
     ensures { ReadsList frames.now («data».entry to «data».exit) (verdicts.entry to verdicts.exit)
         (checks.entry to checks.exit) (listed result) }
 {
-    if data.len() < frames.len() {
-        return Listed::Refused(paper::UNFIT);
-    }
-    if verdicts.len() < frames.len() {
-        return Listed::Refused(paper::UNFIT);
-    }
-    if checks.len() < frames.len() {
-        return Listed::Refused(paper::UNFIT);
-    }
+    room(frames, data, verdicts, checks)?;
     let mut no_pads = [0u8; 1];
     lists::read_all(frames, data, verdicts, &mut no_pads, checks);
-    Listed::Done
+    Ok(())
 }
 
 // The same, and the pad flag of each frame, 1 for wrong, at the front of a fourth lent output.
@@ -116,22 +122,14 @@ pub fn read_list_pads(
     verdicts: &mut [u8],
     pads: &mut [u8],
     checks: &mut [u8],
-) -> Listed
+) -> Result<(), Refusal>
     ensures { ReadsPads frames.now («data».entry to «data».exit) (verdicts.entry to verdicts.exit)
         (pads.entry to pads.exit) (checks.entry to checks.exit) (listed result) }
 {
     if pads.len() < frames.len() {
-        return Listed::Refused(paper::UNFIT);
+        return Err(Refusal::Unfit);
     }
-    if data.len() < frames.len() {
-        return Listed::Refused(paper::UNFIT);
-    }
-    if verdicts.len() < frames.len() {
-        return Listed::Refused(paper::UNFIT);
-    }
-    if checks.len() < frames.len() {
-        return Listed::Refused(paper::UNFIT);
-    }
+    room(frames, data, verdicts, checks)?;
     lists::read_all(frames, data, verdicts, pads, checks);
-    Listed::Done
+    Ok(())
 }

@@ -7,11 +7,11 @@ ghost use Rattle.reader.specs.Lists.{all_shown};
 ghost use Rattle.reader.specs.Parts.{ShowsBy, Room};
 
 use crate::sight::sight_by;
+use tables::Tables;
 
 // Each frame read into the outputs; a place that `pads` does not have is left out.
 fn read_each(
-    c: &[u16; 4096],
-    b: &[u16; 2048],
+    tables: &Tables,
     frames: &[u64],
     data: &mut [u64],
     verdicts: &mut [u8],
@@ -19,21 +19,19 @@ fn read_each(
     checks: &mut [u8],
 )
     requires { Room (length frames.now) (length frames.now) «data».old verdicts.old checks.old }
-    ensures data { ShowsBy c.now b.now data_in frames.now (lent «data») }
-    ensures verdicts { ShowsBy c.now b.now verdict frames.now (lent verdicts) }
-    ensures pads { ShowsBy c.now b.now pad_in frames.now (lent pads) }
-    ensures checks { ShowsBy c.now b.now checks_in frames.now (lent checks) }
+    ensures data { ShowsBy tables.now.corrections tables.now.sums data_in frames.now (lent «data») }
+    ensures verdicts { ShowsBy tables.now.corrections tables.now.sums verdict frames.now (lent verdicts) }
+    ensures pads { ShowsBy tables.now.corrections tables.now.sums pad_in frames.now (lent pads) }
+    ensures checks { ShowsBy tables.now.corrections tables.now.sums checks_in frames.now (lent checks) }
 {
-    let mut i = 0;
-    while i < frames.len() {
-        let s = sight_by(c, b, frames[i]);
+    for (i, frame) in frames.iter().enumerate() {
+        let s = sight_by(tables, *frame);
         data[i] = s.data;
         verdicts[i] = s.verdict;
         checks[i] = s.checks;
         if i < pads.len() {
             pads[i] = s.pad;
         }
-        i += 1;
     }
 }
 
@@ -48,7 +46,6 @@ pub(crate) fn read_all(
     requires { Room (length frames.now) (length frames.now) «data».old verdicts.old checks.old }
     ensures { Written Reads frames.now (all_shown (lent «data») (lent verdicts) (lent pads) (lent checks)) }
 {
-    let c = tables::corrections();
-    let b = tables::byte_sums();
-    read_each(&c, &b, frames, data, verdicts, pads, checks);
+    let tables = Tables::new();
+    read_each(&tables, frames, data, verdicts, pads, checks);
 }

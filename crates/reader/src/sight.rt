@@ -1,6 +1,6 @@
-// What lists show of a frame.
+// What lists show of a frame. It is not taken from a `Word`: to count the flips of an enum costs a frame with flips 13 to 24 instructions.
 ghost use Rattle.std.specs.Prelude.{◌≡◌};
-ghost use Rattle.paper.specs.Answer.{refused};
+ghost use Rattle.paper.specs.Answer.{code, refused};
 ghost use Rattle.decoding.specs.Found.{flag};
 ghost use Rattle.reader.specs.Answers.{sight};
 ghost use Rattle.reader.specs.ByTables.{clean_sums, as_received, said_by, lawful_by, read_by};
@@ -8,13 +8,15 @@ ghost use Rattle.reader.specs.Parts.{mended, mending};
 
 use crate::flipped::{check_flips_of, count_of};
 use crate::mend;
-use crate::mend::{Mended, Mending};
+use crate::mend::Mended;
 use crate::said::{ALL_RIGHT, CLEAN, data_in};
 use crate::sums::sums_by;
+use paper::Refusal;
+use tables::Tables;
 
 // The data of a frame, 0 where it is refused; its verdict byte: 0, 1 or 2 flips, 13 or 14; its pad flag, 1 for wrong, and its check
 // flips, both 0 where it is refused.
-#[derive(Clone, Copy)]
+#[derive(Clone, Copy, Debug, PartialEq, Eq)]
 pub struct Sight {
     pub data: u64,
     pub verdict: u8,
@@ -22,21 +24,22 @@ pub struct Sight {
     pub checks: u8,
 }
 
+// 1 for wrong.
 fn flag_of(wrong: bool) -> u8
     ensures { result ≡ flag wrong }
 {
-    if wrong { 1 } else { 0 }
+    u8::from(wrong)
 }
 
 // In the place of what a refused frame does not have.
 const NOTHING: u8 = 0;
 
-fn refused(n: u8) -> Sight
-    ensures { result ≡ sight (refused n) }
+fn refused(r: Refusal) -> Sight
+    ensures { result ≡ sight (refused (code r)) }
 {
     Sight {
         data: 0,
-        verdict: n,
+        verdict: r.code(),
         pad: NOTHING,
         checks: NOTHING,
     }
@@ -68,26 +71,27 @@ fn lawful(m: Mended) -> Sight
             checks: check_flips_of(e),
         };
     }
-    refused(paper::RUN_BROKEN)
+    refused(Refusal::RunBroken)
 }
 
-fn said(m: Mending) -> Sight
+fn said(m: Result<Mended, Refusal>) -> Sight
     ensures { result ≡ sight (said_by (mending m)) }
 {
     match m {
-        Mending::Near(m) => lawful(m),
-        Mending::Refused(n) => refused(n),
+        Ok(m) => lawful(m),
+        Err(r) => refused(r),
     }
 }
 
 // By lent tables, as `read_by`.
-pub fn sight_by(corrections: &[u16; 4096], sums: &[u16; 2048], frame: u64) -> Sight
-    ensures { result ≡ sight (read_by corrections.now sums.now frame) }
+#[tactic(auto, using(crate::proofs::ByTables::as_clean, crate::proofs::ByTables::as_mended))]
+pub fn sight_by(tables: &Tables, frame: u64) -> Sight
+    ensures { result ≡ sight (read_by tables.now.corrections tables.now.sums frame) }
 {
-    let x = sums_by(sums, frame);
+    let x = sums_by(&tables.sums, frame);
     // The usual frame first.
     if x == CLEAN {
         return as_received(frame);
     }
-    said(mend::mend_by(corrections, x, frame))
+    said(mend::mend_by(&tables.corrections, x, frame))
 }

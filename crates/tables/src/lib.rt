@@ -1,4 +1,4 @@
-// The constant tables of the reader. Whoever reads many frames takes each once and lends it on: each call writes its table anew.
+// The constant tables of the reader. Whoever reads many frames takes them once and lends them on: each call writes its table anew.
 #![tactic(auto)]
 
 ghost use Rattle.tables.specs.Tables.{MendTable, ByteSums};
@@ -18,4 +18,23 @@ pub fn corrections() -> [u16; 4096]
     ensures { MendTable result }
 {
     entries::CORRECTIONS
+}
+
+// Both, to be lent as one. Any two tables of these lengths can stand here: `new` takes the right ones.
+#[derive(Clone, Copy, Debug, PartialEq, Eq)]
+pub struct Tables {
+    pub corrections: [u16; 4096],
+    pub sums: [u16; 2048],
+}
+
+impl Tables {
+    pub fn new() -> Tables
+        ensures corrections { MendTable result.corrections }
+        ensures sums { ByteSums result.sums }
+    {
+        Tables {
+            corrections: corrections(),
+            sums: byte_sums(),
+        }
+    }
 }

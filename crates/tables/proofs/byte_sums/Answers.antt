@@ -3,7 +3,7 @@ use mathlib.Core.Path.{refl}
 use Rattle.poly.specs.Poly.{rem}
 use Rattle.frame.specs.Sums.{run_sums, sums}
 use Rattle.tables.proofs.Grown.{row, rows}
-use Rattle.tables.proofs.Tables.{is_byte_sums}
+use Rattle.tables.proofs.Rules.{is_byte_sums}
 use Rattle.tables.proofs.byte_sums.Goals as goal
 
 pub returns : goal.returns

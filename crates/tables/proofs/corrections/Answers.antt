@@ -3,7 +3,7 @@ use mathlib.Core.Path.{refl}
 use Rattle.bch.specs.Corrections.{mask, filled, empty}
 use Rattle.bch.proofs.Rule.{sound?, whole?, is_corrections}
 use Rattle.frame.specs.Sums.{run_sums}
-use Rattle.tables.proofs.Tables.{runs?, is_mend_table}
+use Rattle.tables.proofs.Rules.{runs?, is_mend_table}
 use Rattle.tables.proofs.corrections.Goals as goal
 
 pub returns : goal.returns

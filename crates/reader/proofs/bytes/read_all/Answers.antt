@@ -5,5 +5,5 @@ use Rattle.reader.proofs.bytes.read_all.Goals as goal
 pub returns : goal.returns
 returns c =
     let r = c.read_each.ensures in
-    shown_of_bytes c.corrections-c.ensures c.byte_sums-b.ensures c.args.frames.now (λ i. (c.type_inv.frames i).fits) _
+    shown_of_bytes c.new-tables.ensures.corrections c.new-tables.ensures.sums c.args.frames.now (λ i. (c.type_inv.frames i).fits) _
     (r.«data», (r.verdicts, (r.checks, tt)))

@@ -14,18 +14,17 @@ use Rattle.reader.proofs.Turns.{BytesBy, shown_none, bytes_none, shown_turn, byt
 use Rattle.reader.proofs.bytes.read_each.Goals as goal
 
 pub loop-i-init : goal.loop-i-init
-loop-i-init c = record { here = omega arith; «data» = bytes_none; verdicts = shown_none; checks = shown_none; at_hand = c.number-frame.ensures }
+loop-i-init c = record { «data» = bytes_none; verdicts = shown_none; checks = shown_none; at_hand = c.number-frame.ensures }
 
 pub loop-i-preserved : goal.loop-i-preserved
 loop-i-preserved c =
     let l = c.loop-i in
     let fs = c.args.frames.now in
     let h : l.i < length (numbers_of fs) = omega (arith, c.loop-i-test.true, numbers_len (length fs / 8) fs 0) in
-    let e = ap (read_by c.args.c.now c.args.b.now) l.invariant.at_hand in
+    let e = ap (read_by c.args.tables.now.corrections c.args.tables.now.sums) l.invariant.at_hand in
     let s = c.sight_by-s.ensures in
     record {
-      here = omega (arith, c.loop-i-test.true);
-      «data» = subst (BytesBy c.args.c.now c.args.b.now (numbers_of fs) data_in c.args.«data».now (l.i + 1))
+      «data» = subst (BytesBy c.args.tables.now.corrections c.args.tables.now.sums (numbers_of fs) data_in c.args.«data».now (l.i + 1))
           (sym c.store.ensures) (bytes_turn l.invariant.«data» h e (ap (λ (x : Sight). x.«data») s) (omega (arith, c.loop-i-test.true, c.requires.0)));
       verdicts = shown_turn l.invariant.verdicts h e (ap (λ (x : Sight). x.verdict) s);
       checks = shown_turn l.invariant.checks h e (ap (λ (x : Sight). x.checks) s);

@@ -2,7 +2,6 @@
 -- the outputs after i frames
 use mathlib.Core.Path.{refl, sym, ap, subst}
 use Prim.Native.Nat.{◌+◌}
-use native.Mathlib.Omega.{arith}
 use Rattle.reader.specs.Answers.{pad_in}
 use Rattle.reader.specs.declared.sight.Sight.{Sight}
 use Rattle.reader.proofs.Turns.{ShownBy, shown_none, shown_turn, shown_over, shown_end}
@@ -12,7 +11,6 @@ use Rattle.reader.proofs.lists.read_each.Goals.{then-i-pads, else-i-pads}
 pub loop-i-init : goal.loop-i-init
 loop-i-init c =
     record {
-      here = omega arith;
       «data» = shown_none;
       verdicts = shown_none;
       pads = shown_none;
@@ -25,9 +23,8 @@ loop-i-preserved c =
     let l = c.loop-i in
     let a = c.args in
     let h = c.loop-i-test.true in
-    let P = ShownBy a.c.now a.b.now a.frames.now pad_in a.pads.now (l.i + 1) in
+    let P = ShownBy a.tables.now.corrections a.tables.now.sums a.frames.now pad_in a.pads.now (l.i + 1) in
     record {
-      here = omega (arith, h);
       «data» = shown_turn l.invariant.«data» h refl (ap (λ (x : Sight). x.«data») s);
       verdicts = shown_turn l.invariant.verdicts h refl (ap (λ (x : Sight). x.verdict) s);
       checks = shown_turn l.invariant.checks h refl (ap (λ (x : Sight). x.checks) s);

@@ -1,14 +1,12 @@
 -- `reader::lists::read_each` meets its contract: after i turns the first i places of each output are written.
 -- the outputs after i frames
 use mathlib.Core.List.{List}
-use Prim.Native.Nat.{ℕ, ◌-◌, ◌≤◌}
-use lib.ListN.{length}
+use Prim.Native.Nat.{ℕ}
 use Rattle.reader.specs.Answers.{verdict, data_in, pad_in, checks_in}
 use Rattle.reader.proofs.Turns.{ShownBy}
 use Rattle.reader.proofs.lists.read_each.Given as goal
 
 pub record After (c b fs ds₀ vs₀ ps₀ cs₀ ds vs ps cs : List ℕ) (i : ℕ) : Type 0 where
-  pub here : i ≤ length fs
   pub «data» : ShownBy c b fs data_in ds₀ i ds
   pub verdicts : ShownBy c b fs verdict vs₀ i vs
   pub pads : ShownBy c b fs pad_in ps₀ i ps
@@ -16,7 +14,4 @@ pub record After (c b fs ds₀ vs₀ ps₀ cs₀ ds vs ps cs : List ℕ) (i : �
 
 abbrev pub invariant-loop-i : goal.invariant-loop-i
 invariant-loop-i l =
-    After l.c l.b l.frames l.initial.data l.initial.verdicts l.initial.pads l.initial.checks l.data l.verdicts l.pads l.checks l.i
-
-abbrev pub decreases-loop-i : goal.decreases-loop-i
-decreases-loop-i l = length l.frames - l.i
+    After l.tables.corrections l.tables.sums l.frames l.initial.data l.initial.verdicts l.initial.pads l.initial.checks l.data l.verdicts l.pads l.checks l.i

@@ -2,7 +2,9 @@
 -- ┌───────────────┬─────────────────────────────────────────────────────────────────┐
 -- │ FormLaws      │ what a form says of its lists: `numbers`, the numbers that a    │
 -- │               │ list holds, `laid ys o`, o with ys at its front, and            │
--- │               │ `stored o i x`, o with x as number i                            │
+-- │               │ `stored o i x`, o with x as number i: what is laid stands at    │
+-- │               │ the front, one number more is stored behind it, what is behind  │
+-- │               │ stays, and what is laid again takes its place                   │
 -- │ same_numbers, │ that of numbers                                                 │
 -- │ numbers_over, │                                                                 │
 -- │ set_number    │                                                                 │
@@ -10,7 +12,7 @@
 -- │ WrittenIn     │ an output shows one number for each of xs, which R allows       │
 -- │               │ there; o₀ as it came                                            │
 -- └───────────────┴─────────────────────────────────────────────────────────────────┘
-use Rattle.std.specs.Prelude.{◌≡◌, List, [], ◌∷◌, ◌++◌, ℕ, ◌<◌, length, get_or, set}
+use Rattle.std.specs.Prelude.{◌≡◌, List, [], ◌∷◌, ◌++◌, ℕ, ◌^◌, ◌<◌, ◌≤◌, length, get_or, take, set}
 use Rattle.laws.specs.Lent.{◌over◌, Each}
 use Rattle.radix.specs.Octets.{bytes_of}
 
@@ -20,6 +22,9 @@ pub record FormLaws {A : Type 0} (numbers : List A → List ℕ) (laid : List �
   pub size : (ys : List ℕ) (o : List A) → length (numbers (laid ys o)) ≡ length (numbers o)
   pub behind : (ys : List ℕ) (o : List A) (i : ℕ) → length ys ≡ i → i < length (numbers o)
       → get_or (numbers (laid ys o)) i 0 ≡ get_or (numbers o) i 0
+  pub front : (ys : List ℕ) (o : List A) (n : ℕ) → ((i : ℕ) → get_or ys i 0 < 2 ^ 64) → length ys ≡ n → n ≤ length (numbers o)
+      → take n (numbers (laid ys o)) ≡ ys
+  pub again : (xs ys : List ℕ) (o : List A) → length ys ≤ length xs → laid xs (laid ys o) ≡ laid xs o
 
 abbrev pub same_numbers : List ℕ → List ℕ
 same_numbers xs = xs

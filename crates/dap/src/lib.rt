@@ -95,7 +95,7 @@ fn judge(apart: u32, agrees: bool) -> Result<Damage, Refusal>
     }
 }
 
-// What is damaged among two copies and their parity.
+// What is damaged among two copies and their parity. The copies are lent apart, since `good` hands one of them back.
 pub fn verdict(a: &[u8], b: &[u8], parity: u8) -> Result<Damage, Refusal>
     ensures { Judges a.now b.now parity result }
 {

@@ -1,5 +1,5 @@
 // The same with frames as bytes: a frame is eight bytes, highest first.
-// Not one generic call with that on numbers: there each frame is turned, here all are one copy; the rest is `fit`, `finish` and `head` in both.
+// Not one generic call with that on numbers: there each frame is turned, here all are one copy; `fit`, `finish` and `head` serve both.
 ghost use Rattle.paper.specs.Answer.{answer};
 ghost use Rattle.laws.specs.Lent.{◌to◌};
 ghost use Rattle.capture.specs.Calls.{WritesBytes, ReadsBytes};

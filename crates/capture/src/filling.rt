@@ -24,8 +24,7 @@ fn goes_in(count: usize, notes: usize, room: usize) -> bool
 pub(crate) fn fit(count: usize, notes: usize, room: usize) -> Result<usize, Refusal>
     ensures { answer result ≡ fitting count notes room }
 {
-    let goes = goes_in(count, notes, room);
-    if !goes {
+    if !goes_in(count, notes, room) {
         return Err(Refusal::Unfit);
     }
     if crate::MOST_FRAMES < count {

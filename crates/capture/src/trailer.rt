@@ -32,11 +32,10 @@ fn points_back(ahead: usize, count: u64, distance: u64) -> bool
 fn judge(ahead: usize, first: u64, count: u64, distance: u64) -> Result<Label, Refusal>
     ensures { answer result ≡ judged ahead first count distance }
 {
-    let back = points_back(ahead, count, distance);
     if first / 0x1_0000_0000 != TAG {
         return Err(Refusal::NoTag);
     }
-    if !back {
+    if !points_back(ahead, count, distance) {
         return Err(Refusal::Disagreeing);
     }
     if (crate::MOST_FRAMES as u64) < count {

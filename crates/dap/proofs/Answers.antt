@@ -9,21 +9,21 @@
 -- │ one_part     │ one part of memory, with its bytes, meets that of `good`         │
 -- └──────────────┴──────────────────────────────────────────────────────────────────┘
 use mathlib.Core.Path.{◌≡◌, refl, sym, ap, ◌∙◌}
+use mathlib.Core.Bool.{Bool, true, false, cond}
 use mathlib.Core.List.{List}
 use Prim.Native.Nat.{ℕ, ◌≤◌}
 use borrow.Author.Tests.{le-leb, le-ltb, eq-eqb}
 use lib.Dec.{eqb}
 use lib.ListN.{length}
 use Rattle.std.specs.Borrow.{Bor}
-use Rattle.paper.specs.Answer.{Answer, gives, refused}
-use Rattle.paper.proofs.Answer.{either, known_by}
-use Rattle.dap.specs.declared.Made.{Made}
-use Rattle.dap.specs.declared.Made.TheVariants.{Parity, Refused as Unmade}
+use Rattle.std.specs.Prelude.{Result, Ok, Err}
+use Rattle.paper.specs.Numbers.{outside, unfit, too_many_bits}
+use Rattle.paper.specs.declared.Refusal.{Refusal}
+use Rattle.paper.specs.declared.Refusal.TheVariants.{Outside, Unfit, TooManyBits}
+use Rattle.paper.specs.Answer.{Answer, gives, refused, owed, answer}
+use Rattle.paper.proofs.Answer.{answer_one}
 use Rattle.dap.specs.declared.Damage.{Damage}
-use Rattle.dap.specs.declared.Judged.{Judged}
-use Rattle.dap.specs.declared.Judged.TheVariants.{Found, Refused as Unjudged}
 use Rattle.dap.specs.Copies.{parity_of, diffs}
-use Rattle.dap.specs.Answers.{made, judged}
 use Rattle.dap.specs.Calls.{copied, named, owed_on, Part}
 use Rattle.dap.specs.Parts.{judgement}
 use Rattle.dap.specs.Claims.{OneMake, SomeVerdict, OneVerdict, Same, OnePart}
@@ -46,31 +46,27 @@ past a b p k =
 pub few : (a b : List ℕ) (p : ℕ) → Accepted a b p → diffs a b ≤ 1 → owed_on a b p ≡ gives (named (diffs a b) (eqb (parity_of a) p))
 few a b p k h = past a b p k ∙ simp (le-ltb 1 (diffs a b) h)
 
-made_back : (r : Made) → either Parity Unmade (made r) ≡ r
-made_back (Parity a) = refl
-made_back (Unmade n) = refl
-
 pub one_make : OneMake
 one_make d o₁ o₂ r s x₁ x₂ y₁ y₂ p q =
-    let e : made r ≡ made s = p.answer ∙ sym q.answer in (
-      known_by made (either Parity Unmade) made_back r s e,
+    let e : answer r ≡ answer s = p.answer ∙ sym q.answer in (
+      answer_one r s e,
       p.first ∙ ap (λ (t : Answer ℕ). copied t d o₁) e ∙ sym q.first,
       p.second ∙ ap (λ (t : Answer ℕ). copied t d o₂) e ∙ sym q.second,
     )
 
-judged_back : (r : Judged) → either Found Unjudged (judged r) ≡ r
-judged_back (Found a) = refl
-judged_back (Unjudged n) = refl
-
 pub one_verdict : OneVerdict
-one_verdict a b p v w x y = known_by judged (either Found Unjudged) judged_back v w (x ∙ sym y)
+one_verdict a b p v w x y = answer_one v w (x ∙ sym y)
+
+-- every answer that is owed is one of a result
+held : (s t u : Bool) (d : Damage)
+    → (v : Result Damage Refusal) × (answer v ≡ owed (cond s unfit (cond t outside (cond u too_many_bits 0))) d)
+held true t u d = (Err Unfit, refl)
+held false true u d = (Err Outside, refl)
+held false false true d = (Err TooManyBits, refl)
+held false false false d = (Ok d, refl)
 
 pub some_verdict : SomeVerdict
-some_verdict a b p = of (owed_on a b p)
-  where
-    of : (x : Answer Damage) → (v : Judged) × (judged v ≡ x)
-    of (gives d) = (Found d, refl)
-    of (refused n) = (Unjudged n, refl)
+some_verdict a b p = held _ _ _ _
 
 same_part : (x : Answer Damage) (a b r s : Bor (List ℕ)) → Part x a b r → Part x a b s → Same r s
 same_part (gives d) a b r s e f = (ap (λ x. x.now) (e ∙ sym f), ap (λ x. x.ref_ptr) (e ∙ sym f))

@@ -1,5 +1,5 @@
 pub mod Laws
-pub mod Loops
+pub mod Sums
 pub mod Parities
 pub mod Answers
 pub mod Theorems

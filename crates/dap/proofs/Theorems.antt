@@ -15,11 +15,11 @@ use borrow.Author.Tests.{eqb-true, eqb-false, leb-true, ltb-false, not-false, eq
 use lib.Dec.{T, leb, ltb, eqb, leb→le}
 use lib.ListN.{length, get_or, take, drop, length-set, length-append, length-drop}
 use lib.Seq.{take_at, get_or-append-add, get_or-drop}
+use Rattle.std.specs.Prelude.{Ok, Err}
 use Rattle.paper.specs.Numbers.{unless}
 use Rattle.paper.specs.Answer.{gives}
 use Rattle.paper.proofs.Answer.{given}
 use Rattle.laws.proofs.Truth.{and_l, and_r, two}
-use Rattle.dap.specs.declared.Made.TheVariants.{Parity, Refused}
 use Rattle.dap.specs.declared.Damage.{Damage}
 use Rattle.dap.specs.declared.Damage.TheVariants.{FirstCopy, SecondCopy}
 use Rattle.dap.specs.Copies.{sized, parity_of, diffs, flip_at}
@@ -34,7 +34,7 @@ passed n true e = refl
 passed n false e = absurd (omega arith)
 
 -- where `make` answers, the size is right and there is room
-fitting : (d o₁ o₂ x₁ x₂ : List ℕ) (p : ℕ) → Makes d o₁ o₂ (Parity p) x₁ x₂
+fitting : (d o₁ o₂ x₁ x₂ : List ℕ) (p : ℕ) → Makes d o₁ o₂ (Ok p) x₁ x₂
     → (sized d ≡ true) × (length d ≤ length o₁) × (length d ≤ length o₂) × (p ≡ parity_of d)
 fitting d o₁ o₂ x₁ x₂ p m =
     let g = given _ _ _ (sym m.answer) in
@@ -65,10 +65,10 @@ kept d o h =
     }
 
 pub keeps_the_rest : KeepsTheRest
-keeps_the_rest d o₁ o₂ x₁ x₂ (Parity p) m =
+keeps_the_rest d o₁ o₂ x₁ x₂ (Ok p) m =
     let f = fitting d o₁ o₂ x₁ x₂ p m in
     (rw m.first (kept d o₁ f.1), rw m.second (kept d o₂ f.2))
-keeps_the_rest d o₁ o₂ x₁ x₂ (Refused n) m = (
+keeps_the_rest d o₁ o₂ x₁ x₂ (Err n) m = (
   record { size = ap length m.first; past = λ i l. ap (λ (x : List ℕ). get_or x i 0) m.first },
   record { size = ap length m.second; past = λ i l. ap (λ (x : List ℕ). get_or x i 0) m.second },
 )
@@ -137,9 +137,9 @@ second_named (suc n) true e = refl
 second_named (suc n) false e = cc
 
 first_named : (n : ℕ) (t : Bool) → named n t ≡ FirstCopy → (1 ≤ n) × (t ≡ false)
-first_named zero true e = let z : ◌≡◌ {A = ℕ} 0 1 = cc in absurd (omega arith)
-first_named zero false e = let z : ◌≡◌ {A = ℕ} 0 1 = cc in absurd (omega arith)
-first_named (suc n) true e = let z : ◌≡◌ {A = ℕ} 0 1 = cc in absurd (omega arith)
+first_named zero true e = absurd (cc)
+first_named zero false e = absurd (cc)
+first_named (suc n) true e = absurd (cc)
 first_named (suc n) false e = (omega arith, refl)
 
 pub agrees : Agrees

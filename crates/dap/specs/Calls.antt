@@ -12,22 +12,21 @@
 -- │ Part       │ the part that goes with each verdict                               │
 -- │ Hands      │ `good`: the part that goes with the verdict owed                   │
 -- └────────────┴────────────────────────────────────────────────────────────────────┘
-use Rattle.std.specs.Prelude.{◌≡◌, Bool, true, false, cond, not, ◌&&◌, List, [], ◌++◌, ℕ, zero, suc, leb, ltb, eqb, length, drop}
+use Rattle.std.specs.Prelude.{◌≡◌, Bool, true, false, cond, not, ◌&&◌, List, [], ◌++◌, ℕ, zero, suc, leb, ltb, eqb, length, drop, Result}
 use Rattle.std.specs.Borrow.{Bor}
 use Rattle.paper.specs.Numbers.{outside, unfit, too_many_bits, unless}
-use Rattle.paper.specs.Answer.{Answer, gives, refused, owed}
-use Rattle.dap.specs.declared.Made.{Made}
+use Rattle.paper.specs.Answer.{Answer, gives, refused, owed, answer}
+use Rattle.paper.specs.Answer.{answer as made}
+use Rattle.paper.specs.declared.Refusal.{Refusal}
 use Rattle.dap.specs.declared.Damage.{Damage}
 use Rattle.dap.specs.declared.Damage.TheVariants.{Nothing, FirstCopy, SecondCopy, ParityNumber}
-use Rattle.dap.specs.declared.Judged.{Judged}
 use Rattle.dap.specs.Copies.{sized, parity_of, diffs}
-use Rattle.dap.specs.Answers.{made, judged}
 
 abbrev pub copied : Answer ℕ → List ℕ → List ℕ → List ℕ
 copied (gives p) d out = d ++ drop (length d) out
 copied (refused n) d out = out
 
-pub record Makes (d out₁ out₂ : List ℕ) (r : Made) (after₁ after₂ : List ℕ) : Type 0 where
+pub record Makes (d out₁ out₂ : List ℕ) (r : Result ℕ Refusal) (after₁ after₂ : List ℕ) : Type 0 where
   pub answer : made r ≡ owed (unless unfit (sized d && (leb (length d) (length out₁) && leb (length d) (length out₂)))) (parity_of d)
   pub first : after₁ ≡ copied (made r) d out₁
   pub second : after₂ ≡ copied (made r) d out₂
@@ -47,8 +46,8 @@ refusal a b p =
 abbrev pub owed_on : List ℕ → List ℕ → ℕ → Answer Damage
 owed_on a b p = owed (refusal a b p) (named (diffs a b) (eqb (parity_of a) p))
 
-abbrev pub Judges : List ℕ → List ℕ → ℕ → Judged → Type 0
-Judges a b p r = judged r ≡ owed_on a b p
+abbrev pub Judges : List ℕ → List ℕ → ℕ → Result Damage Refusal → Type 0
+Judges a b p r = answer r ≡ owed_on a b p
 
 abbrev pub good : Damage → Bor (List ℕ) → Bor (List ℕ) → Bor (List ℕ)
 good Nothing a b = a

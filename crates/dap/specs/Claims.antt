@@ -19,27 +19,25 @@
 -- │ Agrees       │ of copies that differ in one bit, the good one is the one whose  │
 -- │              │ parity agrees                                                    │
 -- └──────────────┴──────────────────────────────────────────────────────────────────┘
-use Rattle.std.specs.Prelude.{◌≡◌, true, List, ℕ, ◌-◌, ◌<◌, ◌≤◌, length, get_or, take}
+use Rattle.std.specs.Prelude.{◌≡◌, true, List, ℕ, ◌-◌, ◌<◌, ◌≤◌, length, get_or, take, Result, Ok}
 use Rattle.std.specs.Borrow.{Bor}
 use Rattle.paper.specs.Answer.{gives}
+use Rattle.paper.specs.declared.Refusal.{Refusal}
 use Rattle.dap.specs.Copies.{sized, parity_of, flip_at}
-use Rattle.dap.specs.declared.Made.{Made}
-use Rattle.dap.specs.declared.Made.TheVariants.{Parity}
 use Rattle.dap.specs.declared.Damage.{Damage}
 use Rattle.dap.specs.declared.Damage.TheVariants.{Nothing, FirstCopy, SecondCopy, ParityNumber}
-use Rattle.dap.specs.declared.Judged.{Judged}
 use Rattle.dap.specs.Calls.{Makes, owed_on, Judges, Hands}
 
 abbrev pub OneMake : Type 0
 OneMake =
-    (d o₁ o₂ : List ℕ) (r s : Made) (x₁ x₂ y₁ y₂ : List ℕ) → Makes d o₁ o₂ r x₁ x₂ → Makes d o₁ o₂ s y₁ y₂
+    (d o₁ o₂ : List ℕ) (r s : Result ℕ Refusal) (x₁ x₂ y₁ y₂ : List ℕ) → Makes d o₁ o₂ r x₁ x₂ → Makes d o₁ o₂ s y₁ y₂
     → (r ≡ s) × (x₁ ≡ y₁) × (x₂ ≡ y₂)
 
 abbrev pub SomeVerdict : Type 0
-SomeVerdict = (a b : List ℕ) (p : ℕ) → (v : Judged) × Judges a b p v
+SomeVerdict = (a b : List ℕ) (p : ℕ) → (v : Result Damage Refusal) × Judges a b p v
 
 abbrev pub OneVerdict : Type 0
-OneVerdict = (a b : List ℕ) (p : ℕ) (v w : Judged) → Judges a b p v → Judges a b p w → v ≡ w
+OneVerdict = (a b : List ℕ) (p : ℕ) (v w : Result Damage Refusal) → Judges a b p v → Judges a b p w → v ≡ w
 
 abbrev pub Same : Bor (List ℕ) → Bor (List ℕ) → Type 0
 Same r s = (r.now ≡ s.now) × (r.ref_ptr ≡ s.ref_ptr)
@@ -54,14 +52,14 @@ pub record Copies (d x₁ x₂ : List ℕ) (p : ℕ) : Type 0 where
   pub parity : p ≡ parity_of d
 
 abbrev pub MadeCopies : Type 0
-MadeCopies = (d o₁ o₂ x₁ x₂ : List ℕ) (p : ℕ) → Makes d o₁ o₂ (Parity p) x₁ x₂ → Copies d x₁ x₂ p
+MadeCopies = (d o₁ o₂ x₁ x₂ : List ℕ) (p : ℕ) → Makes d o₁ o₂ (Ok p) x₁ x₂ → Copies d x₁ x₂ p
 
 pub record Kept (d o x : List ℕ) : Type 0 where
   pub size : length x ≡ length o
   pub past : (i : ℕ) → length d ≤ i → get_or x i 0 ≡ get_or o i 0
 
 abbrev pub KeepsTheRest : Type 0
-KeepsTheRest = (d o₁ o₂ x₁ x₂ : List ℕ) (r : Made) → Makes d o₁ o₂ r x₁ x₂ → Kept d o₁ x₁ × Kept d o₂ x₂
+KeepsTheRest = (d o₁ o₂ x₁ x₂ : List ℕ) (r : Result ℕ Refusal) → Makes d o₁ o₂ r x₁ x₂ → Kept d o₁ x₁ × Kept d o₂ x₂
 
 pub data Came (d a b : List ℕ) (p : ℕ) : Type 0 where
   whole : a ≡ d → b ≡ d → p ≡ parity_of d → Came d a b p

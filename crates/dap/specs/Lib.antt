@@ -1,5 +1,4 @@
 pub mod Copies
-pub mod Answers
 pub mod Calls
 pub mod Parts
 pub mod Claims

@@ -5,7 +5,8 @@ ghost use Rattle.block.specs.Parts.{near₀, near₁, near₂, near₃, kind_of,
 
 use crate::symbols::{kind, nearest};
 
-// The subsets of a block's four symbols, 3 for one that did not come whole.
+// The subsets of a block's four symbols, 3 for one that did not come whole: numbers and no Option, as `choice` of block/specs/Parts
+// computes with them.
 #[derive(Clone, Copy, Debug, PartialEq, Eq)]
 struct Kinds {
     k0: u16,

@@ -14,7 +14,8 @@ pub enum Input {
     Last(usize),
 }
 
-// Reads until the buffer is full or the input ends. A read may hand over any number of bytes, so the loop counts those that came.
+// Reads until the buffer is full or the input ends. A read may hand over any number of bytes, so no range counts the turns, and
+// `read_exact` does not say how many came before the end.
 pub fn load<R: Read>(reader: &mut R, buffer: &mut [u8]) -> io::Result<Input>
     ensures fits { IfOk result (λ i. Fits i buffer.new) }
     ensures bytes { IfOk result (λ i. Loads (R.remaining reader.old) (R.remaining reader.new) i buffer.new) }

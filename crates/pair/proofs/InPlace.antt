@@ -1,77 +1,94 @@
--- Frames that are read where they stand, and what both passes come to.
+-- Frames that are read where they stand, and what both passes come to, whatever the form of their list.
 -- ┌─────────────┬─────────────────────────────────────────────────────────────┐
+-- │ Read        │ list and verdicts after i turns, as they came               │
+-- │ read_none   │ before the first turn                                       │
 -- │ next_number │ the frame to be read next stands there as it came           │
--- │ next_bytes  │ as bytes                                                    │
--- │ pass_list   │ two passes over a list of numbers: the frames of the words, │
--- │             │ then their answers in their place                           │
--- │ pass_bytes  │ and over a list of bytes                                    │
+-- │ read_turn   │ one frame read                                              │
+-- │ read_end    │ after the last turn                                         │
+-- │ pass        │ two passes over a list: the frames of the words, then their │
+-- │             │ answers in their place                                      │
 -- └─────────────┴─────────────────────────────────────────────────────────────┘
 use mathlib.Core.Path.{◌≡◌, refl, sym, ap, ap₂, ◌∙◌}
-use mathlib.Core.Bool.{true}
-use mathlib.Core.List.{List, [], ◌∷◌, ◌++◌, map}
-use Prim.Native.Nat.{ℕ, zero, suc, ◌/◌, ◌%◌, ◌^◌, ◌<◌, ◌≤◌}
-use native.Mathlib.Nat.{not-suc-le-zero, le_of_suc-le-suc}
+use mathlib.Core.List.{List, [], ◌∷◌, map}
+use Prim.Native.Nat.{ℕ, zero, suc, ◌+◌, ◌%◌, ◌^◌, ◌<◌, ◌≤◌}
 use native.Mathlib.Omega.{arith}
 use lib.Dec.{lit<}
-use lib.ListN.{length, get_or, take, drop, length-map}
-use lib.Seq.{get_or-take, length-take-le, take_at}
+use lib.ListN.{length, get_or, take, set, length-map}
+use lib.Seq.{get_or-take, length-take-le, take_all}
 use Rattle.paper.specs.Answer.{Answer}
-use Rattle.laws.specs.Lent.{Lent, ◌over◌, Each, none, next, Written}
-use Rattle.laws.proofs.Writing.{over_fits, over_take, map_size, each_length}
-use Rattle.radix.specs.Octets.{numbers_of, bytes_of}
-use Rattle.radix.proofs.Joined.{numbers_len, numbers_join}
-use Rattle.radix.proofs.Stored.{length_bytes, numbers_back}
-use Rattle.radix.proofs.Writing.{number_past}
+use Rattle.laws.specs.Lent.{◌over◌, Each, none, next}
+use Rattle.laws.proofs.Writing.{map_size, map_next, shown_on, each_length}
+use Rattle.radix.specs.Forms.{FormLaws, numbers_over}
+use Rattle.radix.proofs.Forms.{numbers_laws}
 use Rattle.tables.specs.Tables.{MendTable, ByteSums}
 use Rattle.decoding.specs.Found.{Found}
 use Rattle.reader.specs.Answers.{verdict, data_in}
 use Rattle.reader.specs.ByTables.{read_by}
 use Rattle.reader.proofs.ByTables.{by_the_tables}
-use Rattle.reader.proofs.Turns.{ShownBy, BytesBy}
 use Rattle.pairing.specs.Order.{Pair, pairs_of, in_turn}
 use Rattle.pairing.specs.Answers.{ReadBoth}
 use Rattle.pairing.proofs.Lists.{turn_length, pairs_length}
 use Rattle.pairing.proofs.Answers.{each_by_itself}
-use Rattle.pair.specs.Calls.{both_shown, bytes_both_shown}
-use Rattle.pair.specs.Parts.{Converted}
+use Rattle.pair.specs.Parts.{Parted, PairsIn, ReadIn, ReadsIn}
 
-over_behind : (ys out : List ℕ) (i d : ℕ) → length ys ≤ i → get_or (ys over out) i d ≡ get_or out i d
-unfolding ◌over◌
-over_behind ys [] i d h = refl
-over_behind [] (o ∷ out) i d h = refl
-over_behind (y ∷ ys) (o ∷ out) zero d h = absurd (not-suc-le-zero h)
-over_behind (y ∷ ys) (o ∷ out) (suc i) d h = over_behind ys out i d (le_of_suc-le-suc h)
+-- an output of any form that shows what g takes of the first i frames
+module _ {A : Type 0} {numbers : List A → List ℕ} {laid : List ℕ → List A → List A} {stored : List A → ℕ → ℕ → List A}
+    (laws : FormLaws numbers laid stored) (c b fs : List ℕ) (g : Answer Found → ℕ) (o₀ : List A) where
+  shown_size : (i : ℕ) → i ≤ length fs → length (map g (map (read_by c b) (take i fs))) ≡ i
+  shown_size i h = length-map (map (read_by c b) (take i fs)) g ∙ map_size (read_by c b) fs 0 i h
 
-over_over : (xs ys out : List ℕ) → length ys ≤ length xs → xs over (ys over out) ≡ xs over out
-unfolding ◌over◌
-over_over xs ys [] h = refl
-over_over xs [] (o ∷ out) h = refl
-over_over [] (y ∷ ys) (o ∷ out) h = absurd (not-suc-le-zero h)
-over_over (x ∷ xs) (y ∷ ys) (o ∷ out) h = ap (λ (l : List ℕ). x ∷ l) (over_over xs ys out (le_of_suc-le-suc h))
+  shown_more : (i : ℕ) (o : List A) (a : Answer Found) (y : ℕ) → ReadIn laid c b g (take i fs) o₀ o → i < length fs → i < length (numbers o₀)
+      → a ≡ read_by c b (get_or fs i 0) → y ≡ g a → ReadIn laid c b g (take (i + 1) fs) o₀ (stored o i y)
+  shown_more i o a y s h l e q =
+      let xs = map (read_by c b) (take i fs) in
+      let x = read_by c b (get_or fs i 0) in
+      ap₂ (λ (l : List A) (n : ℕ). stored l i n) s (q ∙ ap g e)
+      ∙ laws.more (map g xs) o₀ i (g x) (shown_size i (omega (arith, h))) l
+      ∙ ap (λ (l : List ℕ). laid l o₀) (sym (ap (map g) (map_next (read_by c b) fs 0 i h) ∙ shown_on g xs x))
 
--- what is shown of the first i frames is i numbers
-shown_size : (c b fs : List ℕ) (g : Answer Found → ℕ) (i : ℕ) → i ≤ length fs → length (map g (map (read_by c b) (take i fs))) ≡ i
-shown_size c b fs g i h = length-map (map (read_by c b) (take i fs)) g ∙ map_size (read_by c b) fs 0 i h
+  behind : (i : ℕ) (o : List A) → ReadIn laid c b g (take i fs) o₀ o → i < length fs → i < length (numbers o₀)
+      → get_or (numbers o) i 0 ≡ get_or (numbers o₀) i 0
+  behind i o s h l =
+      ap (λ (l : List A). get_or (numbers l) i 0) s ∙ laws.behind (map g (map (read_by c b) (take i fs))) o₀ i (shown_size i (omega (arith, h))) l
 
--- how many frames there are to read in a list of bytes
-pub frames_there : (n : ℕ) (o : List ℕ) → n ≤ length o / 8 → length (take n (numbers_of o)) ≡ n
-frames_there n o h = length-take-le n (numbers_of o) (omega (arith, numbers_len (length o / 8) o 0))
+-- the first n numbers of a list are frames, and each is read in its place
+pub record Read {A : Type 0} (numbers : List A → List ℕ) (laid : List ℕ → List A → List A) (c b : List ℕ) (n : ℕ) (o₀ : List A) (v₀ : List ℕ)
+    (o : List A) (v : List ℕ) (i : ℕ) : Type 0 where
+  pub here : i ≤ n
+  pub list : ReadIn laid c b data_in (take i (take n (numbers o₀))) o₀ o
+  pub verdicts : ReadIn numbers_over c b verdict (take i (take n (numbers o₀))) v₀ v
 
-module _ {c b o₀ : List ℕ} {n : ℕ} {g : Answer Found → ℕ} {i : ℕ} {o : List ℕ} where
-  pub next_number : ShownBy c b (take n o₀) g o₀ i o → i < n → n ≤ length o₀ → get_or o i 0 ≡ get_or (take n o₀) i 0
-  next_number s h l =
-      let e = shown_size c b (take n o₀) g i (omega (arith, length-take-le n o₀ l)) in
-      ap (λ (l : List ℕ). get_or l i 0) s.shows
-      ∙ over_behind (map g (map (read_by c b) (take i (take n o₀)))) o₀ i 0 (omega (arith, e))
-      ∙ sym (get_or-take n o₀ i 0 h)
+module _ {A : Type 0} {numbers : List A → List ℕ} {laid : List ℕ → List A → List A} {stored : List A → ℕ → ℕ → List A}
+    (laws : FormLaws numbers laid stored) {c b : List ℕ} {n : ℕ} {o₀ : List A} {v₀ : List ℕ} (room : n ≤ length (numbers o₀)) where
+  pub read_none : Read numbers laid c b n o₀ v₀ o₀ v₀ 0
+  read_none = record { here = omega arith; list = sym (laws.none o₀); verdicts = sym (numbers_laws.none v₀) }
 
-  pub next_bytes : BytesBy c b (take n (numbers_of o₀)) g o₀ i o → i < n → n ≤ length o₀ / 8
-      → get_or (numbers_of o) i 0 ≡ get_or (take n (numbers_of o₀)) i 0
-  next_bytes s h l =
-      let e = shown_size c b (take n (numbers_of o₀)) g i (omega (arith, frames_there n o₀ l)) in
-      ap (λ (l : List ℕ). get_or (numbers_of l) i 0) s.shows
-      ∙ number_past (map g (map (read_by c b) (take i (take n (numbers_of o₀))))) o₀ i e (omega arith)
-      ∙ sym (get_or-take n (numbers_of o₀) i 0 h)
+  module _ {o : List A} {v : List ℕ} {i : ℕ} (r : Read numbers laid c b n o₀ v₀ o v i) where
+    few : i < n → i < length (take n (numbers o₀))
+    few h = omega (arith, h, length-take-le n (numbers o₀) room)
+
+    pub next_number : i < n → get_or (numbers o) i 0 ≡ get_or (take n (numbers o₀)) i 0
+    next_number h =
+        behind laws c b (take n (numbers o₀)) data_in o₀ i o r.list (few h) (omega (arith, h, room)) ∙ sym (get_or-take n (numbers o₀) i 0 h)
+
+    pub read_turn : {a : Answer Found} {x y : ℕ} → i < n → n ≤ length v₀ → a ≡ read_by c b (get_or (numbers o) i 0) → x ≡ data_in a → y ≡ verdict a
+        → Read numbers laid c b n o₀ v₀ (stored o i x) (set v i y) (i + 1)
+    read_turn {a} {x} {y} h l e p q =
+        let f = e ∙ ap (read_by c b) (next_number h) in
+        record {
+          here = omega (arith, h);
+          list = shown_more laws c b (take n (numbers o₀)) data_in o₀ i o a x r.list (few h) (omega (arith, h, room)) f p;
+          verdicts = shown_more numbers_laws c b (take n (numbers o₀)) verdict v₀ i v a y r.verdicts (few h) (omega (arith, h, l)) f q;
+        }
+
+    all_there : n ≤ i → take i (take n (numbers o₀)) ≡ take n (numbers o₀)
+    all_there h = take_all i (take n (numbers o₀)) (omega (arith, h, length-take-le n (numbers o₀) room))
+
+    pub read_end : n ≤ i → ReadIn laid c b data_in (take n (numbers o₀)) o₀ o × ReadIn numbers_over c b verdict (take n (numbers o₀)) v₀ v
+    read_end h = (
+      r.list ∙ ap (λ (l : List ℕ). laid (map data_in (map (read_by c b) l)) o₀) (all_there h),
+      r.verdicts ∙ ap (λ (l : List ℕ). map verdict (map (read_by c b) l) over v₀) (all_there h),
+    )
 
 -- both answers of a pair of frames
 abbrev answered : (ℕ → Answer Found) → Pair ℕ → Pair (Answer Found)
@@ -81,7 +98,7 @@ in_turn_lem : (F : ℕ → Answer Found) (ps : List (Pair ℕ)) → in_turn (map
 in_turn_lem F [] = refl
 in_turn_lem F (p ∷ ps) = ap (λ (l : List (Answer Found)). F p.first ∷ F p.second ∷ l) (in_turn_lem F ps)
 
-both_read : {c b : List ℕ} → MendTable c → ByteSums b → {qs ps : List (Pair ℕ)} → Each (Converted true) qs ps
+both_read : {c b : List ℕ} → MendTable c → ByteSums b → {qs ps : List (Pair ℕ)} → Each (Parted) qs ps
     → Each ReadBoth qs (map (answered (read_by c b)) ps)
 both_read m s none = none
 both_read {c} {b} m s (next {x} {y} i e) =
@@ -91,19 +108,11 @@ both_read {c} {b} m s (next {x} {y} i e) =
     (both_read m s e)
 
 -- the frames of words are numbers of 64 bits
-whole_turn : {qs ps : List (Pair ℕ)} → Each (Converted true) qs ps → (i : ℕ) → get_or (in_turn ps) i 0 < 2 ^ 64
+whole_turn : {qs ps : List (Pair ℕ)} → Each (Parted) qs ps → (i : ℕ) → get_or (in_turn ps) i 0 < 2 ^ 64
 whole_turn none i = lit< tt
 whole_turn (next r e) zero = r.frames.0
 whole_turn (next r e) (suc zero) = r.frames.1
 whole_turn (next r e) (suc (suc i)) = whole_turn e i
-
-numbers_front : (xs out : List ℕ) (n : ℕ) → ((i : ℕ) → get_or xs i 0 < 2 ^ 64) → length xs ≡ n → n ≤ length out / 8
-    → take n (numbers_of (bytes_of xs over out)) ≡ xs
-numbers_front xs out n h e l =
-    ap (λ (o : List ℕ). take n (numbers_of o)) (over_fits (bytes_of xs) out (omega (arith, length_bytes xs)))
-    ∙ ap (take n) (numbers_join (bytes_of xs) (drop (length (bytes_of xs)) out) (omega (arith, length_bytes xs)))
-    ∙ ap (λ (o : List ℕ). take n (o ++ numbers_of (drop (length (bytes_of xs)) out))) (numbers_back xs h)
-    ∙ take_at xs (numbers_of (drop (length (bytes_of xs)) out)) n e
 
 -- what g takes of each frame is what it takes of each answer in turn
 module _ (F : ℕ → Answer Found) (ps : List (Pair ℕ)) (g : Answer Found → ℕ) where
@@ -117,40 +126,23 @@ frame_count : {R : Pair ℕ → Pair ℕ → Type 0} (xs : List ℕ) (ps : List 
     → length (in_turn ps) ≡ length xs
 frame_count xs ps e z = omega (arith, turn_length ps, each_length e, pairs_length xs)
 
-module _ {c b : List ℕ} (m : MendTable c) (s : ByteSums b) (xs : List ℕ) (z : length xs % 2 ≡ 0) (ps : List (Pair ℕ))
-    (e : Each (Converted true) (pairs_of xs) ps) (d v : Lent) (n : ℕ) (k : length xs ≡ n) (d₁ : List ℕ) where
-  pub pass_list : n ≤ length d.was → d₁ ≡ in_turn ps over d.was → d.is ≡ map data_in (map (read_by c b) (take n d₁)) over d₁
-      → v.is ≡ map verdict (map (read_by c b) (take n d₁)) over v.was → Written ReadBoth (pairs_of xs) (both_shown d v)
-  pass_list l f p q =
+module _ {A : Type 0} {numbers : List A → List ℕ} {laid : List ℕ → List A → List A} {stored : List A → ℕ → ℕ → List A}
+    (laws : FormLaws numbers laid stored) {c b : List ℕ} (m : MendTable c) (s : ByteSums b) (xs : List ℕ) (z : length xs % 2 ≡ 0) {d₀ d₁ d : List A}
+    {v₀ v : List ℕ} where
+  pub pass : length xs ≤ length (numbers d₀) → PairsIn laid Parted (pairs_of xs) d₀ d₁
+      → ReadIn laid c b data_in (take (length xs) (numbers d₁)) d₁ d → v ≡ map verdict (map (read_by c b) (take (length xs) (numbers d₁))) over v₀
+      → ReadsIn laid (pairs_of xs) d₀ d v₀ v
+  pass l w p q =
       let F = read_by c b in
-      let a = frame_count xs ps e z ∙ k in
-      let t : take n d₁ ≡ in_turn ps = ap (take n) f ∙ over_take (in_turn ps) d.was n (sym a) (omega (arith, a)) in
+      let n = length xs in
+      let a : length (in_turn w.ys) ≡ n = frame_count xs w.ys w.each z in
+      let t : take n (numbers d₁) ≡ in_turn w.ys =
+      ap (λ (o : List A). take n (numbers o)) w.is ∙ laws.front (in_turn w.ys) d₀ n (whole_turn w.each) a l in
       record {
-        ys = map (answered F) ps;
-        each = both_read m s e;
-        all = (
-          p ∙ ap₂ (λ (x y : List ℕ). x over y) (of_each F ps data_in t) f
-              ∙ over_over (map data_in (in_turn (map (answered F) ps))) (in_turn ps) d.was (omega (arith, of_length F ps data_in)),
-          (q ∙ ap (λ (x : List ℕ). x over v.was) (of_each F ps verdict t), tt),
-        );
-      }
-
-  pub pass_bytes : n ≤ length d.was / 8 → d₁ ≡ bytes_of (in_turn ps) over d.was
-      → d.is ≡ bytes_of (map data_in (map (read_by c b) (take n (numbers_of d₁)))) over d₁
-      → v.is ≡ map verdict (map (read_by c b) (take n (numbers_of d₁))) over v.was → Written ReadBoth (pairs_of xs) (bytes_both_shown d v)
-  pass_bytes l f p q =
-      let F = read_by c b in
-      let a = frame_count xs ps e z ∙ k in
-      let t : take n (numbers_of d₁) ≡ in_turn ps =
-      ap (λ (o : List ℕ). take n (numbers_of o)) f ∙ numbers_front (in_turn ps) d.was n (whole_turn e) a l in
-      let ds = map data_in (in_turn (map (answered F) ps)) in
-      record {
-        ys = map (answered F) ps;
-        each = both_read m s e;
-        all = (
-          p ∙ ap₂ (λ (x y : List ℕ). bytes_of x over y) (of_each F ps data_in t) f
-              ∙ over_over (bytes_of ds) (bytes_of (in_turn ps)) d.was
-              (omega (arith, of_length F ps data_in, length_bytes ds, length_bytes (in_turn ps))),
-          (q ∙ ap (λ (x : List ℕ). x over v.was) (of_each F ps verdict t), tt),
-        );
+        ys = map (answered F) w.ys;
+        each = both_read m s w.each;
+        «data» =
+            p ∙ ap₂ (λ (x : List ℕ) (y : List A). laid x y) (of_each F w.ys data_in t) w.is
+            ∙ laws.again (map data_in (in_turn (map (answered F) w.ys))) (in_turn w.ys) d₀ (omega (arith, of_length F w.ys data_in));
+        verdicts = q ∙ ap (λ (x : List ℕ). x over v₀) (of_each F w.ys verdict t);
       }

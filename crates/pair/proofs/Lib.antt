@@ -2,5 +2,4 @@ pub mod Moves
 pub mod Lines
 pub mod Turns
 pub mod InPlace
-pub mod Refusals
 pub mod OneAnswer

@@ -1,79 +1,100 @@
-// The loops of the list forms, over outputs that are long enough.
-ghost use Rattle.std.specs.Prelude.{◌≡◌, [], ◌∷◌, ◌+◌, ◌*◌, ◌<◌, ◌≤◌, length, take, set};
-ghost use Rattle.laws.specs.Lent.{lent, Written};
+// The list forms' work, over outputs that are long enough, in either form.
+ghost use Rattle.std.specs.Prelude.{◌≡◌, ℕ, ◌+◌, ◌*◌, ◌^◌, ◌<◌, ◌≤◌, length, take};
+ghost use Rattle.laws.specs.Lent.{lent};
 ghost use Rattle.reader.specs.Answers.{answer, verdict, data_in};
 ghost use Rattle.reader.specs.Parts.{ShowsBy};
-ghost use Rattle.pairing.specs.Order.{pairs_of};
-ghost use Rattle.pairing.specs.Answers.{ReadBoth};
-ghost use Rattle.pair.specs.Calls.{pair, as_pair, in_words, both_shown};
-ghost use Rattle.pair.specs.Parts.{Converted, PairRoom};
+ghost use Rattle.pairing.specs.Order.{Pair, pairs_of, Interleaved};
+ghost use Rattle.pair.specs.Calls.{pair, as_pair};
+ghost use Rattle.pair.specs.Parts.{Parted, PairRoom, PairsIn, ReadIn, ReadsIn};
 
 use crate::{Two, join, part};
-use reader::{Reading, read_by, verdict_of};
+use octets::Form;
+use paper::Refusal;
+use reader::{Word, read_by, verdict_of};
+use tables::Tables;
 
-// The words of two frames; or, back, the frames of two words.
-pub(crate) fn converted(back: bool, first: u64, second: u64) -> Two
-    ensures { Converted back (pair first second) (as_pair result) }
-{
-    if back {
-        part(first, second)
-    } else {
+// Which way pairs go.
+pub(crate) trait Way {
+    // What becomes of a pair.
+    ghost Turns: { Pair ℕ → Pair ℕ → Type 0 };
+
+    fn turned(first: u64, second: u64) -> Two
+        ensures { Turns (pair first second) (as_pair result) };
+}
+
+// Frames to words.
+pub(crate) struct ToWords;
+
+// Words back to frames.
+pub(crate) struct ToFrames;
+
+impl Way for ToWords {
+    ghost Turns = { Interleaved };
+
+    fn turned(first: u64, second: u64) -> Two {
         join(first, second)
     }
 }
 
-fn put_two(list: &mut [u64], k: usize, t: Two)
-    requires { 2 * k + 1 < length list.old }
-    ensures { list.new ≡ set (set list.old (2 * k) t.first) (2 * k + 1) t.second }
-{
-    list[2 * k] = t.first;
-    list[2 * k + 1] = t.second;
+impl Way for ToFrames {
+    ghost Turns = { Parted };
+
+    fn turned(first: u64, second: u64) -> Two {
+        part(first, second)
+    }
 }
 
-// Frames to words, pair by pair; or, back, words to frames.
-pub(crate) fn over_pairs(back: bool, from: &[u64], out: &mut [u64])
-    requires { length from.now ≤ length out.old }
-    ensures { Written (Converted back) (pairs_of from.now) (in_words (lent out) ∷ []) }
+fn put_two<F: Form>(list: &mut [F], k: usize, t: Two)
+    requires { (2 * k + 1 < length (F.numbers list.old)) × (2 * k + 1 < 2 ^ 64) }
+    ensures { list.new ≡ F.stored (F.stored list.old (2 * k) t.first) (2 * k + 1) t.second }
 {
-    let mut k = 0;
-    while k < from.len() / 2 {
-        put_two(out, k, converted(back, from[2 * k], from[2 * k + 1]));
-        k += 1;
+    F::store(list, 2 * k, t.first);
+    F::store(list, 2 * k + 1, t.second);
+}
+
+// Pair by pair.
+pub(crate) fn over_pairs<W: Way, F: Form>(from: &[F], out: &mut [F])
+    requires { length (F.numbers from.now) ≤ length (F.numbers out.old) }
+    ensures { PairsIn F.laid W.Turns (pairs_of (F.numbers from.now)) out.old out.new }
+{
+    for k in 0..F::count(from) / 2 {
+        put_two(
+            out,
+            k,
+            W::turned(F::number(from, 2 * k), F::number(from, 2 * k + 1)),
+        );
     }
 }
 
 // 0 where the frame is refused.
-pub(crate) fn data_of(r: Reading) -> u64
+fn data_of(r: Result<Word, Refusal>) -> u64
     ensures { result ≡ data_in (answer r) }
 {
     match r {
-        Reading::Lawful(w) => w.data,
-        Reading::Refused(_) => 0,
+        Ok(w) => w.data,
+        Err(_) => 0,
     }
 }
 
 // The first n frames of the list, each read where it stands.
-fn read_each(c: &[u16; 4096], b: &[u16; 2048], n: usize, list: &mut [u64], verdicts: &mut [u8])
-    requires { (n ≤ length list.old) × (n ≤ length verdicts.old) }
-    ensures list { ShowsBy c.now b.now data_in (take n list.old) (lent list) }
-    ensures verdicts { ShowsBy c.now b.now verdict (take n list.old) (lent verdicts) }
+fn read_each<F: Form>(tables: &Tables, n: usize, list: &mut [F], verdicts: &mut [u8])
+    requires { (n ≤ length (F.numbers list.old)) × (n ≤ length verdicts.old) }
+    ensures list { ReadIn F.laid tables.now.corrections tables.now.sums data_in (take n (F.numbers list.old)) list.old list.new }
+    ensures verdicts { ShowsBy tables.now.corrections tables.now.sums verdict (take n (F.numbers list.old)) (lent verdicts) }
 {
-    let mut i = 0;
-    while i < n {
-        let r = read_by(c, b, list[i]);
-        list[i] = data_of(r);
+    for i in 0..n {
+        let r = read_by(tables, F::number(list, i));
+        F::store(list, i, data_of(r));
         verdicts[i] = verdict_of(r);
-        i += 1;
     }
 }
 
 // The frames first, where their data is to stand; then they are read, by tables that are taken once.
-pub(crate) fn read_all(words: &[u64], data: &mut [u64], verdicts: &mut [u8])
-    requires { PairRoom (length words.now) (length «data».old) (length verdicts.old) }
-    ensures { Written ReadBoth (pairs_of words.now) (both_shown (lent «data») (lent verdicts)) }
+pub(crate) fn read_all<F: Form>(words: &[F], data: &mut [F], verdicts: &mut [u8])
+    requires { PairRoom (length (F.numbers words.now)) (length (F.numbers «data».old)) (length verdicts.old) }
+    ensures { ReadsIn F.laid (pairs_of (F.numbers words.now)) «data».old «data».new verdicts.old verdicts.new }
 {
-    over_pairs(true, words, data);
-    let c = tables::corrections();
-    let b = tables::byte_sums();
-    read_each(&c, &b, words.len(), data, verdicts);
+    over_pairs::<ToFrames, F>(words, data);
+    let tables = Tables::new();
+    read_each(&tables, F::count(words), data, verdicts);
 }

@@ -13,7 +13,8 @@ use crate::range::known;
 use crate::steps::{Run, Taps};
 use paper::{MOST_BYTES, MOST_COUNTED, Refusal};
 
-// The pattern's number is its length. The bits that came, up to that many, stand low in the register, the oldest highest.
+// The pattern's number is its length, and no enum, as the generator's. The bits that came, up to that many, stand low in the register,
+// the oldest highest.
 #[derive(Clone, Copy, Debug, PartialEq, Eq)]
 pub struct Counter {
     pub pattern: u8,

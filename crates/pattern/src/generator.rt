@@ -10,7 +10,8 @@ use crate::range::known;
 use crate::steps::Taps;
 use paper::{MOST_BYTES, Refusal};
 
-// The pattern's number is its length, 11 or 31. The register holds its last bits, the oldest highest.
+// The pattern's number is its length, 11 or 31: a number and no enum, since a caller may hand in any, and 11 refuses what is none
+// (`Starts`, `Fills`). The register holds its last bits, the oldest highest.
 #[derive(Clone, Copy, Debug, PartialEq, Eq)]
 pub struct Generator {
     pub pattern: u8,

@@ -21,6 +21,7 @@ pub(crate) struct Run {
     ghost fits: { bits < 2 ^ len },
 }
 
+// The register r is a plain number: a counter's is whole only once it is filled, so a type of whole ones would be built at each byte.
 impl<const L: u64, const T: u64> Taps<L, T> {
     // The next k bits. None of them is a tap of another, so one exclusive-or gives them all.
     pub(crate) fn ahead(self, r: u64, k: u64) -> Run

@@ -1,6 +1,5 @@
 -- Steps of an account.
 -- ┌─────────────┬───────────────────────────────────────────────────────────────────┐
--- │ one_at      │ an entry of a list, and those after it, are what is left of it    │
 -- │ printed     │ what a call printed is the first bytes of its output              │
 -- │ can_count   │ what is told next is there, so that it can be counted             │
 -- │ told_none   │ a call that prints no bytes tells nothing                         │
@@ -10,12 +9,12 @@
 -- │ all_printed │ what is printed step by step are the lines left                   │
 -- └─────────────┴───────────────────────────────────────────────────────────────────┘
 use mathlib.Core.Path.{◌≡◌, refl, sym, ap, ap₂, ◌∙◌, subst}
-use mathlib.Core.List.{List, [], ◌∷◌, ◌++◌}
+use mathlib.Core.List.{List, [], ◌++◌}
 use mathlib.Core.Logic.{⊎_elim}
-use Prim.Native.Nat.{ℕ, suc, ◌+◌, ◌-◌, ◌<◌, ◌≤◌}
+use Prim.Native.Nat.{ℕ, ◌+◌, ◌-◌, ◌<◌, ◌≤◌}
 use native.Mathlib.Omega.{arith}
-use lib.ListN.{length, get_or, take, drop, length-drop}
-use lib.Seq.{drop-drop, drop-cons}
+use lib.ListN.{length, take, drop, length-drop}
+use lib.Seq.{drop-drop}
 use Rattle.laws.proofs.Writing.{over_none, over_length, over_take}
 use Rattle.std.specs.Prelude.{None, Some}
 use Rattle.std.specs.declared.option.Option.{Option}
@@ -27,9 +26,6 @@ use Rattle.printout.specs.declared.account.Told.{Told}
 use Rattle.printout.specs.declared.account.Step.{Step}
 use Rattle.printout.specs.Calls.{Prints, notice_at, told_with, Tells}
 use Rattle.printout.specs.Claims.{lines_left, left_to_tell, Printed, ended, told}
-
-pub one_at : (xs : List ℕ) (k x : ℕ) → k < length xs → x ≡ get_or xs k 0 → x ∷ drop (suc k) xs ≡ drop k xs
-one_at xs k x h e = ap (λ (y : ℕ). y ∷ drop (suc k) xs) e ∙ sym (drop-cons xs k 0 h)
 
 pub printed : {p o₀ o : List ℕ} {n : ℕ} → Prints p o₀ n o → take n o ≡ p
 printed {p} {o₀} {o} {n} t =

@@ -75,6 +75,7 @@ fn refused_line(out: &mut [u8; 64], index: u64) -> usize
 }
 
 // The line of what is told.
+#[tactic(auto, unfolding(wording::specs::Account::notice_line))]
 fn notice_line(x: Notice, out: &mut [u8; 64]) -> usize
     ensures { Prints (notice_line (Some x)) out.old result out.new }
 {
@@ -85,6 +86,7 @@ fn notice_line(x: Notice, out: &mut [u8; 64]) -> usize
 }
 
 // What is told where no altered frame is left, and j refused ones have been told.
+#[tactic(auto, unfolding(wording::specs::Account::next_notice))]
 fn next_refused(refused: &[u64], j: usize) -> Option<Notice>
     ensures { result ≡ next_notice [] [] (drop j refused.now) }
 {
@@ -93,6 +95,7 @@ fn next_refused(refused: &[u64], j: usize) -> Option<Notice>
 }
 
 // What is told where frame i is the next altered one, in the places p, and j refused ones have been told.
+#[tactic(auto, unfolding(wording::specs::Account::next_notice))]
 fn lower_of(i: u64, p: u64, refused: &[u64], j: usize) -> Notice
     ensures { Some result ≡ next_notice (i ∷ []) (p ∷ []) (drop j refused.now) }
 {
@@ -107,6 +110,7 @@ fn lower_of(i: u64, p: u64, refused: &[u64], j: usize) -> Notice
 }
 
 // What is told next. An altered frame is there only with its places.
+#[tactic(auto, unfolding(wording::specs::Account::next_notice))]
 fn next_notice(altered: &[u64], places: &[u64], refused: &[u64], c: Told) -> Option<Notice>
     ensures { result ≡ notice_at altered.now places.now refused.now c }
 {
@@ -140,6 +144,7 @@ fn past(x: Notice, c: Told) -> Told
 
 // Puts the line of what is told next at the start of `out`, and answers its length and how many have been told with it; nothing, 0
 // and those told already where nothing is left.
+// `altered` and `places` are two lists, entry by entry: `Tells` and `WholeAccount` are of the two that salvage fills.
 pub fn account_line(
     altered: &[u64],
     places: &[u64],

@@ -1,5 +1,6 @@
 -- What only private functions cite.
 -- ┌────────────────┬─────────────────────────────────────────────────────────────────┐
+-- │ told_of x      │ what the struct of the code tells                               │
 -- │ Alike vs ps cs │ lists of one length                                             │
 -- │ Spare t n      │ n more frames keep every number of t below 2^64                 │
 -- │ Folds t xs a   │ a is t with xs added, or 11 where they are not known            │
@@ -13,6 +14,10 @@ use Rattle.tally.specs.Told.{Told}
 use Rattle.tally.specs.Ranges.{known, frames_in}
 use Rattle.tally.specs.Fold.{after}
 use Rattle.tally.specs.declared.Tally.{Tally}
+use Rattle.tally.specs.declared.fold.Told.{Told as Struct}
+
+abbrev pub told_of : Struct → Told
+told_of x = record { verdict = x.verdict; pad = x.pad; checks = x.checks }
 
 abbrev pub Alike : List ℕ → List ℕ → List ℕ → Type 0
 Alike vs ps cs = (length vs ≡ length ps) × (length vs ≡ length cs)

@@ -4,7 +4,11 @@
 -- │ told vs ps cs │ of frames one after another, as three lists say it             │
 -- └───────────────┴────────────────────────────────────────────────────────────────┘
 use Rattle.std.specs.Prelude.{List, [], ◌∷◌, ℕ}
-pub use Rattle.tally.specs.declared.fold.Told.{Told}
+
+pub record Told : Type 0 where
+  pub verdict : ℕ
+  pub pad : ℕ
+  pub checks : ℕ
 
 unfoldable pub told : List ℕ → List ℕ → List ℕ → List Told
 told [] ps cs = []

@@ -4,7 +4,7 @@ ghost use Rattle.paper.specs.Answer.{answer, gives};
 ghost use Rattle.tally.specs.Told.{told};
 ghost use Rattle.tally.specs.Ranges.{is_known};
 ghost use Rattle.tally.specs.Fold.{step};
-ghost use Rattle.tally.specs.Parts.{Alike, Spare, Folds, Past, limited};
+ghost use Rattle.tally.specs.Parts.{told_of, Alike, Spare, Folds, Past, limited};
 
 use crate::Tally;
 use paper::{MOST_COUNTED, Refusal};
@@ -23,7 +23,7 @@ struct Told {
 
 impl Told {
     fn is_known(self) -> bool
-        ensures { result ≡ is_known self }
+        ensures { result ≡ is_known (told_of self) }
     {
         self.pad <= 1
             && match self.verdict {
@@ -51,8 +51,8 @@ fn step_refused(t: Tally, verdict: u8) -> Tally
 
 // An accepted frame ends the stretch.
 fn step(t: Tally, x: Told) -> Tally
-    requires { Spare t 1 × (is_known x ≡ true) }
-    ensures { result ≡ step t x }
+    requires { Spare t 1 × (is_known (told_of x) ≡ true) }
+    ensures { result ≡ step t (told_of x) }
 {
     match x.verdict {
         0 => Tally {

@@ -1,15 +1,16 @@
--- `differing`: the bits counted and those that differ in what is left are those of the whole.
-use native.Mathlib.Omega.{arith}
-use Rattle.dap.proofs.Loops.{diffs_step, byte_diff, diffs_end}
+-- `differing`: the sum of the chain is the bits that differ.
+use mathlib.Core.Path.{◌∙◌}
+use Rattle.std.proofs.Common.{rules}
+use Rattle.std.proofs.lemmas.Iterator.{YieldsList-from_slice, YieldsList-from_zip, YieldsList-from_map}
+use Rattle.std.proofs.lemmas.Iterator.Consumers.{YieldsList-at, sum_by_from_yields_List}
+use Rattle.dap.proofs.Sums.{apart, diffs_sum}
 use Rattle.dap.proofs.differing.Goals as goal
 
-pub loop-i-preserved : goal.loop-i-preserved
-loop-i-preserved c =
-    omega (
-      arith,
-      byte_diff (c.shared_slice_known-1.given c.loop-i.i).fits (c.shared_slice_known-in-loop-i-1.given c.loop-i.i).fits,
-      diffs_step c.args.a.now c.args.b.now c.loop-i.i c.loop-i-test.true c.requires.1,
-    )
-
 pub returns : goal.returns
-returns c = omega (arith, diffs_end c.args.a.now c.args.b.now c.loop-i.i (omega arith))
+returns c =
+    sum_by_from_yields_List apart _ c.map.result _ c.sum.ensures.ran
+    (YieldsList-from_map _ apart
+    (YieldsList-at c.map.ensures.source
+    (YieldsList-from_zip (YieldsList-from_slice c.args.a.now (cc)) (YieldsList-from_slice c.args.b.now (cc))))
+    c.map.ensures.closure (λ x r q k. search rules))
+    ∙ diffs_sum c.args.a.now c.args.b.now

@@ -23,4 +23,5 @@ returns c =
     let o = c.args.frames.now in
     let f = c.args.file.now in
     let h : length o ≤ length (numbers_of f) = omega (arith, c.requires, numbers_len (length f / 8) f 0) in
-    upto_end u (omega (arith, c.loop-n-test.false, upto_size u)) ∙ over_all (take (length o) (numbers_of f)) o (length-take-le (length o) (numbers_of f) h)
+    upto_end u (omega (arith, c.loop-n-test.false, upto_size u))
+    ∙ over_all (take (length o) (numbers_of f)) o (length-take-le (length o) (numbers_of f) h)

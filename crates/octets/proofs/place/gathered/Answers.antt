@@ -20,7 +20,8 @@ overflow_mul-x c =
     omega (arith, one_byte_more l.x 0 l.b-index c.args.n (omega arith) c.requires.0 l.invariant.1 (omega arith))
 
 -- byte i of the place
-byte : (bs : List ℕ) (at n i : ℕ) → i < length (take (at + n - at) (drop at bs)) → get_or (take (at + n - at) (drop at bs)) i 0 ≡ get_or bs (at + i) 0
+byte : (bs : List ℕ) (at n i : ℕ) → i < length (take (at + n - at) (drop at bs))
+    → get_or (take (at + n - at) (drop at bs)) i 0 ≡ get_or bs (at + i) 0
 byte bs at n i h =
     let l : i < at + n - at = omega (arith, length-take (at + n - at) (drop at bs)) in
     get_or-take (at + n - at) (drop at bs) i 0 l ∙ get_or-drop at bs i 0

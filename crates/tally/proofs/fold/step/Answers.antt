@@ -4,6 +4,7 @@ use Prim.Native.Nat.{◌≤◌}
 use native.Mathlib.Omega.{arith}
 use Rattle.tally.specs.Ranges.{flips_of}
 use Rattle.tally.specs.Fold.{step}
+use Rattle.tally.specs.Parts.{told_of}
 use Rattle.tally.proofs.Verdicts.{parts}
 use Rattle.tally.proofs.Steps.{tally_eq}
 use Rattle.tally.proofs.Numbers.{here, absent, added, counted, flagged, ended, passed, unflagged}
@@ -12,7 +13,7 @@ use Rattle.tally.proofs.fold.step.Goals as goal
 pub returns-in-0 : goal.returns-in-0
 unfolding step
 returns-in-0 c =
-    let x = c.args.x in
+    let x = told_of c.args.x in
     let v = x.verdict in
     let t = c.args.t in
     let e : v ≡ 0 = omega arith in
@@ -26,7 +27,7 @@ returns-in-0 c =
 pub returns-in-1 : goal.returns-in-1
 unfolding step
 returns-in-1 c =
-    let x = c.args.x in
+    let x = told_of c.args.x in
     let v = x.verdict in
     let t = c.args.t in
     let h : v ≤ 2 = omega arith in
@@ -38,5 +39,5 @@ returns-in-1 c =
 
 pub returns-in_default : goal.returns-in_default
 returns-in_default c =
-    let x = c.args.x in
+    let x = told_of c.args.x in
     c.step_refused.ensures ∙ unflagged c.args.t x.verdict x.pad x.checks (omega arith) c.requires.1

@@ -18,12 +18,6 @@ use Rattle.pattern.proofs.steps.Taps.feed_byte.Goals as goal
 upper : (x m : ℕ) → x < 256 → m ≤ 8 → x / 2 ^ (8 - m) < 2 ^ m
 upper x m h l = let e : 8 ≡ m + (8 - m) = omega arith in shr_lt {n = x} m (8 - m) (subst (λ (k : ℕ). x < 2 ^ k) e h)
 
-pub enter-full-requires : goal.enter-full-requires
-enter-full-requires g c =
-    let s = c.requires.0 in
-    let m = g.row.L - c.args.c.filled in
-    (lit< tt, record { places = omega (arith, s.places); register = s.register })
-
 pub compare-requires-2 : goal.compare-requires-2
 compare-requires-2 g c =
     let a = c.args in

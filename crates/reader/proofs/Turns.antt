@@ -9,20 +9,17 @@
 -- │ shown_turn,   │                                                                │
 -- │ shown_over,   │                                                                │
 -- │ shown_end     │                                                                │
--- │ BytesBy …     │ an output of bytes, and of it the same                         │
 -- └───────────────┴────────────────────────────────────────────────────────────────┘
 use mathlib.Core.Path.{◌≡◌, sym, ap, ap₂, ◌∙◌, subst}
 use mathlib.Core.List.{List, map}
-use Prim.Native.Nat.{ℕ, ◌+◌, ◌/◌, ◌<◌, ◌≤◌}
+use Prim.Native.Nat.{ℕ, ◌+◌, ◌<◌, ◌≤◌}
 use native.Mathlib.Omega.{arith}
 use lib.ListN.{length, get_or, take, set, length-map}
 use Rattle.paper.specs.Answer.{Answer}
 use Rattle.laws.specs.Lent.{◌over◌}
 use Rattle.laws.proofs.Writing.{over_length, map_size, map_next, mapped_more, mapped_past, mapped_all, shown_on}
-use Rattle.radix.specs.Octets.{bytes_of, stored}
-use Rattle.radix.specs.Forms.{FormLaws, numbers_over, bytes_over}
-use Rattle.radix.proofs.Joined.{numbers_len}
-use Rattle.radix.proofs.Forms.{numbers_laws, bytes_laws}
+use Rattle.radix.specs.Forms.{FormLaws, numbers_over}
+use Rattle.radix.proofs.Forms.{numbers_laws}
 use Rattle.decoding.specs.Found.{Found}
 use Rattle.reader.specs.ByTables.{read_by}
 
@@ -52,24 +49,14 @@ module _ {A : Type 0} {laid : List ℕ → List A → List A} {c b fs : List ℕ
 abbrev pub ShownBy : List ℕ → List ℕ → List ℕ → (Answer Found → ℕ) → List ℕ → ℕ → List ℕ → Type 0
 ShownBy = ShownIn numbers_over
 
-abbrev pub BytesBy : List ℕ → List ℕ → List ℕ → (Answer Found → ℕ) → List ℕ → ℕ → List ℕ → Type 0
-BytesBy = ShownIn bytes_over
-
 module _ {c b fs : List ℕ} {g : Answer Found → ℕ} {o₀ : List ℕ} where
   pub shown_none : ShownBy c b fs g o₀ 0 o₀
   shown_none = in_none numbers_laws
-
-  pub bytes_none : BytesBy c b fs g o₀ 0 o₀
-  bytes_none = in_none bytes_laws
 
   module _ {i : ℕ} {o : List ℕ} {a : Answer Found} {y : ℕ} where
     pub shown_turn : ShownBy c b fs g o₀ i o → i < length fs → a ≡ read_by c b (get_or fs i 0) → y ≡ g a → ShownBy c b fs g o₀ (i + 1) (set o i y)
     shown_turn s h e q =
         record { shows = ap₂ (λ (l : List ℕ) (n : ℕ). set l i n) s.shows (q ∙ ap g e) ∙ mapped_more (read_by c b) fs 0 g i o₀ h }
-
-    pub bytes_turn : BytesBy c b fs g o₀ i o → i < length fs → a ≡ read_by c b (get_or fs i 0) → y ≡ g a → i < length o₀ / 8
-        → BytesBy c b fs g o₀ (i + 1) (stored o i y)
-    bytes_turn s h e q l = in_turn bytes_laws s h e q (omega (arith, l, numbers_len (length o₀ / 8) o₀ 0))
 
   module _ {i : ℕ} {o : List ℕ} where
     pub shown_over : ShownBy c b fs g o₀ i o → i < length fs → length o ≤ i → ShownBy c b fs g o₀ (i + 1) o
@@ -79,6 +66,3 @@ module _ {c b fs : List ℕ} {g : Answer Found → ℕ} {o₀ : List ℕ} where
 
     pub shown_end : ShownBy c b fs g o₀ i o → length fs ≤ i → o ≡ map g (map (read_by c b) fs) over o₀
     shown_end = in_end
-
-    pub bytes_end : BytesBy c b fs g o₀ i o → length fs ≤ i → o ≡ bytes_of (map g (map (read_by c b) fs)) over o₀
-    bytes_end = in_end

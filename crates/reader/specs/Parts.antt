@@ -5,7 +5,6 @@
 -- │ ShowsIn            │ an output shows what g takes of each frame of fs, read by   │
 -- │                    │ the tables c and b: it is o, and was o₀                     │
 -- │ ShowsBy c b g fs o │ that of numbers                                             │
--- │ ShowsBytesBy       │ that of bytes, eight a number                               │
 -- │ Room fs ds vs cs   │ data, verdicts and check flips have a place for each of fs  │
 -- │ ReadIn             │ the data of each frame in an output of the frames' form,    │
 -- │                    │ and what the others show of the same answers                │
@@ -17,7 +16,7 @@ use Rattle.std.specs.Prelude.{◌≡◌, List, [], ◌∷◌, map, ℕ, ◌≤�
 use Rattle.paper.specs.Answer.{Answer, gives, refused, owed, code}
 use Rattle.paper.specs.declared.Refusal.{Refusal}
 use Rattle.laws.specs.Lent.{Lent, Each, AllShow}
-use Rattle.radix.specs.Forms.{numbers_over, bytes_over}
+use Rattle.radix.specs.Forms.{numbers_over}
 use Rattle.bch.specs.Corrections.{places}
 use Rattle.tables.specs.Tables.{entry_of}
 use Rattle.decoding.specs.Found.{Found, flag}
@@ -39,9 +38,6 @@ ShowsIn laid c b g fs o₀ o = o ≡ laid (map g (map (read_by c b) fs)) o₀
 
 abbrev pub ShowsBy : List ℕ → List ℕ → (Answer Found → ℕ) → List ℕ → Lent → Type 0
 ShowsBy c b g fs o = ShowsIn numbers_over c b g fs o.was o.is
-
-abbrev pub ShowsBytesBy : List ℕ → List ℕ → (Answer Found → ℕ) → List ℕ → Lent → Type 0
-ShowsBytesBy c b g fs o = ShowsIn bytes_over c b g fs o.was o.is
 
 abbrev pub Room : List ℕ → List ℕ → List ℕ → List ℕ → Type 0
 Room fs ds vs cs = (length fs ≤ length ds) × (length fs ≤ length vs) × (length fs ≤ length cs)

@@ -10,8 +10,7 @@ use octets::Form;
 use paper::Refusal;
 use tables::Tables;
 
-// Each frame read into the outputs; a place that `pads` does not have is left out. A frame is put together a turn before it is read:
-// whole, not for its bytes alone.
+// Each frame read into the outputs; a place that `pads` does not have is left out.
 fn read_each<F: Form>(
     tables: &Tables,
     frames: &[F],
@@ -26,16 +25,14 @@ fn read_each<F: Form>(
     ensures pads { ShowsBy tables.now.corrections tables.now.sums pad_in (F.numbers frames.now) (lent pads) }
     ensures checks { ShowsBy tables.now.corrections tables.now.sums checks_in (F.numbers frames.now) (lent checks) }
 {
-    let mut frame = F::number(frames, 0);
     for i in 0..F::count(frames) {
-        let s = sight_by(tables, frame);
+        let s = sight_by(tables, F::number(frames, i));
         F::store(data, i, s.data);
         verdicts[i] = s.verdict;
         checks[i] = s.checks;
         if i < pads.len() {
             pads[i] = s.pad;
         }
-        frame = F::number(frames, i + 1);
     }
 }
 

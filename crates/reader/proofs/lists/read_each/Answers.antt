@@ -1,5 +1,4 @@
--- `reader::lists::read_each` meets its contract: after i turns the first i places of each output are written, and the next frame is at
--- hand.
+-- `reader::lists::read_each` meets its contract: after i turns the first i places of each output are written.
 use mathlib.Core.Path.{sym, ap, subst}
 use Prim.Native.Nat.{◌+◌, ◌<◌, ◌≤◌}
 use native.Mathlib.Omega.{arith}
@@ -18,7 +17,6 @@ loop-i-init g c =
       verdicts = shown_none;
       pads = shown_none;
       checks = shown_none;
-      at_hand = c.number-frame.ensures;
     }
 
 pub loop-i-preserved : goal.loop-i-preserved
@@ -29,7 +27,7 @@ loop-i-preserved g c =
     let fs = g.F.Form.numbers a.frames.now in
     let h : l.i < length fs = omega (arith, c.loop-i-test.true, c.count-i-end.ensures) in
     let room : l.i < length (g.F.Form.numbers a.«data».now) = omega (arith, h, c.requires.0) in
-    let e = ap (read_by a.tables.now.corrections a.tables.now.sums) l.invariant.at_hand in
+    let e = ap (read_by a.tables.now.corrections a.tables.now.sums) c.number.ensures in
     let D = ShownIn g.F.Form.laid a.tables.now.corrections a.tables.now.sums fs data_in a.«data».now (l.i + 1) in
     let P = ShownBy a.tables.now.corrections a.tables.now.sums fs pad_in a.pads.now (l.i + 1) in
     record {
@@ -40,7 +38,6 @@ loop-i-preserved g c =
         | then-i-pads w ↦ subst P (sym w.pads-is) (shown_turn l.invariant.pads h e (ap (λ (x : Sight). x.pad) s))
         | else-i-pads w ↦ subst P (sym w.pads-is) (shown_over l.invariant.pads h w.if-i-pads.false)
       ];
-      at_hand = c.number-frame-in-loop-i.ensures;
     }
 
 pub returns : goal.returns

@@ -1,5 +1,5 @@
 // The hierarchical code's answers.
-use crate::fields::Case;
+use crate::fields::{Case, Field};
 use crate::say;
 use crate::say::Shown;
 use hier::Decoded;
@@ -22,9 +22,9 @@ impl Shown for Decoded {
 }
 
 pub(crate) fn make(case: &Case) -> Result<()> {
-    case.answered(hier::make(case.byte(6)).map(Block))
+    case.answered(hier::make(case.byte(Field::A)).map(Block))
 }
 
 pub(crate) fn read(case: &Case) -> Result<()> {
-    case.answered(hier::read((case.number(6) % 65536) as u16))
+    case.answered(hier::read((case.number(Field::A) % 65536) as u16))
 }

@@ -1,5 +1,6 @@
-// The answers of capture files. What is written from numbers and from bytes, or read as either, goes one way.
-use crate::fields::Case;
+// The answers of capture files. What is written from numbers and from bytes, or read as either, goes one way; the calls on bytes in
+// closures, since the check knows no contract of a function that is named where its crate only re-exports it.
+use crate::fields::{Case, Field};
 use crate::say;
 use crate::say::{Item, Manner, Shown};
 use capture::Label;
@@ -29,9 +30,9 @@ fn written<T, F: FnOnce(u32, &[T], &[u8], &mut [u8]) -> Result<usize, Refusal>>(
     requires { F.IsAlwaysCallable by }
 {
     let mut out = [u8::UNTOUCHED; 65600];
-    let out = case.front(7, &mut out);
-    case.answered(by(case.half(6), frames, notes, out).map(|n| n as u64))?;
-    case.left(case.manner(8), out)
+    let out = case.front(Field::B, &mut out);
+    case.answered(by(case.half(Field::A), frames, notes, out).map(|n| n as u64))?;
+    case.left(case.manner(Field::C), out)
 }
 
 pub(crate) fn write(case: &Case, frames: &[u8], notes: &[u8]) -> io::Result<()> {
@@ -61,11 +62,16 @@ pub(crate) fn read(case: &Case, file: &[u8]) -> io::Result<()> {
     let mut numbers = [u64::UNTOUCHED; 8100];
     let mut bytes = [u8::UNTOUCHED; 64900];
     case.answered(capture::head(file))?;
-    taken(case, file, case.front(6, &mut numbers), capture::read)?;
     taken(
         case,
         file,
-        case.front(7, &mut bytes),
+        case.front(Field::A, &mut numbers),
+        capture::read,
+    )?;
+    taken(
+        case,
+        file,
+        case.front(Field::B, &mut bytes),
         |file, frames| capture::read_bytes(file, frames),
     )?;
     case.left(Manner::InShort, capture::notes(file))

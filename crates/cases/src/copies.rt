@@ -1,5 +1,5 @@
 // Duplicate-add-parity's answers.
-use crate::fields::Case;
+use crate::fields::{Case, Field};
 use crate::say::{Item, Manner, Shown};
 use dap::Damage;
 use std::io::Result;
@@ -8,8 +8,8 @@ use std::io::Result;
 pub(crate) fn make(case: &Case, data: &[u8]) -> Result<()> {
     let mut first = [u8::UNTOUCHED; 255];
     let mut second = [u8::UNTOUCHED; 255];
-    let first = case.front(6, &mut first);
-    let second = case.front(7, &mut second);
+    let first = case.front(Field::A, &mut first);
+    let second = case.front(Field::B, &mut second);
     case.answered(dap::make(data, first, second).map(u64::from))?;
     case.left(Manner::Whole, first)?;
     case.left(Manner::Whole, second)
@@ -30,7 +30,7 @@ impl Shown for Damage {
 
 // The verdict, and what is handed back.
 pub(crate) fn read(case: &Case, first: &[u8], second: &[u8]) -> Result<()> {
-    let parity = case.byte(6);
+    let parity = case.byte(Field::A);
     case.answered(dap::verdict(first, second, parity))?;
     case.left(Manner::Whole, dap::good(first, second, parity))
 }

@@ -38,7 +38,7 @@ mod say;
 mod tallies;
 mod wires;
 
-use fields::Case;
+use fields::{Case, Field};
 use input::Input;
 use std::io::{Print, Result};
 
@@ -64,11 +64,11 @@ fn on_lists(case: &Case, kind: u64, first: &[u8], second: &[u8]) -> Result<()> {
 
 // The two kinds that write to what they are lent, or another.
 fn answer(case: &Case, list: &mut [u8]) -> Result<()> {
-    match case.number(2) {
+    match case.number(Field::Kind) {
         7 => patterns::fill(case, list),
         13 => salvages::salvage(case, list),
         kind => {
-            let (first, second) = list.split_at(case.up_to(5, list.len()));
+            let (first, second) = list.split_at(case.up_to(Field::First, list.len()));
             on_lists(case, kind, first, second)
         }
     }
@@ -78,9 +78,9 @@ fn answer(case: &Case, list: &mut [u8]) -> Result<()> {
 fn line(case: &Case, buffer: &mut [u8]) -> Result<()> {
     let Case { rt, head } = *case;
     // After a read that fails the buffer holds what came before.
-    let _ = input::load(&mut rt.stdin(), case.front(3, buffer));
+    let _ = input::load(&mut rt.stdin(), case.front(Field::Follow, buffer));
     rt.write_all(&head[..16])?;
-    answer(case, case.front(4, buffer))?;
+    answer(case, case.front(Field::Lent, buffer))?;
     println!(rt;)
 }
 

@@ -1,6 +1,6 @@
-// The answers of pairs. Lists of numbers and lists of bytes go one way.
+// The answers of pairs. Lists of numbers and lists of bytes go one way, the calls on bytes in closures as those of captures.
 use crate::captures::eights;
-use crate::fields::Case;
+use crate::fields::{Case, Field};
 use crate::say;
 use crate::say::{Item, Shown};
 use pair::Two;
@@ -14,8 +14,8 @@ impl Shown for Two {
 }
 
 pub(crate) fn both(case: &Case) -> io::Result<()> {
-    let a = case.number(6);
-    let b = case.number(7);
+    let a = case.number(Field::A);
+    let b = case.number(Field::B);
     pair::join(a, b).show(case.rt)?;
     pair::part(a, b).show(case.rt)
 }
@@ -29,7 +29,7 @@ fn made<T: Item, F: FnOnce(&[T], &mut [T]) -> Result<(), Refusal>>(
     requires { F.IsAlwaysCallable by }
 {
     case.answered(by(frames, words))?;
-    case.left(case.manner(8), words)
+    case.left(case.manner(Field::C), words)
 }
 
 pub(crate) fn make(case: &Case, frames: &[u8]) -> io::Result<()> {
@@ -39,13 +39,13 @@ pub(crate) fn make(case: &Case, frames: &[u8]) -> io::Result<()> {
     made(
         case,
         eights(frames, &mut list),
-        case.front(6, &mut numbers),
+        case.front(Field::A, &mut numbers),
         pair::make_pairs,
     )?;
     made(
         case,
         frames,
-        case.front(7, &mut bytes),
+        case.front(Field::B, &mut bytes),
         |frames, words| pair::make_pairs_bytes(frames, words),
     )
 }
@@ -59,10 +59,10 @@ fn parted<T: Item, F: FnOnce(&[T], &mut [T], &mut [u8]) -> Result<(), Refusal>>(
     requires { F.IsAlwaysCallable by }
 {
     let mut verdicts = [u8::UNTOUCHED; 8300];
-    let verdicts = case.front(8, &mut verdicts);
+    let verdicts = case.front(Field::C, &mut verdicts);
     case.answered(by(words, data, verdicts))?;
-    case.left(case.manner(9), data)?;
-    case.left(case.manner(9), verdicts)
+    case.left(case.manner(Field::D), data)?;
+    case.left(case.manner(Field::D), verdicts)
 }
 
 pub(crate) fn read(case: &Case, words: &[u8]) -> io::Result<()> {
@@ -72,13 +72,13 @@ pub(crate) fn read(case: &Case, words: &[u8]) -> io::Result<()> {
     parted(
         case,
         eights(words, &mut list),
-        case.front(6, &mut numbers),
+        case.front(Field::A, &mut numbers),
         pair::read_pairs,
     )?;
     parted(
         case,
         words,
-        case.front(7, &mut bytes),
+        case.front(Field::B, &mut bytes),
         |words, data, verdicts| pair::read_pairs_bytes(words, data, verdicts),
     )
 }

@@ -1,5 +1,5 @@
 // The answers of the generator, the counter and its report.
-use crate::fields::Case;
+use crate::fields::{Case, Field};
 use crate::say;
 use crate::say::{Manner, Shown};
 use pattern::{Counter, Generator, Report};
@@ -52,29 +52,29 @@ impl Shown for Report {
 
 // The generator's start, and the counter's.
 pub(crate) fn start(case: &Case) -> Result<()> {
-    let pattern = case.byte(6);
-    case.answered(Generator::start(pattern, case.number(7)))?;
+    let pattern = case.byte(Field::A);
+    case.answered(Generator::start(pattern, case.number(Field::B)))?;
     case.answered(Counter::fresh(pattern))
 }
 
 // A buffer filled, and what its first part then holds.
 pub(crate) fn fill(case: &Case, out: &mut [u8]) -> Result<()> {
     let g = Generator {
-        pattern: case.byte(6),
-        register: case.number(7),
+        pattern: case.byte(Field::A),
+        register: case.number(Field::B),
     };
     case.answered(g.fill(out))?;
-    case.left(Manner::Whole, &out[..case.up_to(5, out.len())])
+    case.left(Manner::Whole, &out[..case.up_to(Field::First, out.len())])
 }
 
 // A piece fed to the counter handed in, and that counter's report.
 pub(crate) fn feed(case: &Case, piece: &[u8]) -> Result<()> {
     let c = Counter {
-        pattern: case.byte(6),
-        filled: case.number(7),
-        register: case.number(8),
-        bits: case.number(9),
-        errors: case.number(10),
+        pattern: case.byte(Field::A),
+        filled: case.number(Field::B),
+        register: case.number(Field::C),
+        bits: case.number(Field::D),
+        errors: case.number(Field::E),
     };
     case.answered(c.feed(piece))?;
     case.answered(c.report())

@@ -1,5 +1,5 @@
 // Salvage's answers.
-use crate::fields::Case;
+use crate::fields::{Case, Field};
 use crate::say;
 use crate::say::{Item, Shown};
 use salvage::Counts;
@@ -16,11 +16,11 @@ pub(crate) fn salvage(case: &Case, file: &mut [u8]) -> Result<()> {
     let mut altered = [u64::UNTOUCHED; 8100];
     let mut places = [u64::UNTOUCHED; 8100];
     let mut refused = [u64::UNTOUCHED; 8100];
-    let altered = case.front(6, &mut altered);
-    let places = case.front(7, &mut places);
-    let refused = case.front(8, &mut refused);
+    let altered = case.front(Field::A, &mut altered);
+    let places = case.front(Field::B, &mut places);
+    let refused = case.front(Field::C, &mut refused);
     case.answered(salvage::salvage(file, altered, places, refused))?;
-    let manner = case.manner(9);
+    let manner = case.manner(Field::D);
     case.left(manner, file)?;
     case.left(manner, altered)?;
     case.left(manner, places)?;

@@ -1,5 +1,5 @@
 // The tally's answers, and those of the lane that feeds it.
-use crate::fields::Case;
+use crate::fields::{Case, Field};
 use crate::say;
 use crate::say::Shown;
 use lane::Totals;
@@ -9,15 +9,15 @@ use tally::Tally;
 
 fn handed_in(case: &Case) -> Tally {
     Tally {
-        clean: case.number(6),
-        one: case.number(7),
-        two: case.number(8),
-        no_word: case.number(9),
-        run_broken: case.number(10),
-        pad_wrong: case.number(11),
-        check_flips: case.number(12),
-        current: case.number(13),
-        longest: case.number(14),
+        clean: case.number(Field::A),
+        one: case.number(Field::B),
+        two: case.number(Field::C),
+        no_word: case.number(Field::D),
+        run_broken: case.number(Field::E),
+        pad_wrong: case.number(Field::F),
+        check_flips: case.number(Field::G),
+        current: case.number(Field::H),
+        longest: case.number(Field::I),
     }
 }
 
@@ -57,7 +57,7 @@ fn added(t: Tally, verdicts: &[u8], pads: &[u8], checks: &[u8]) -> Result<Tally,
 
 // The flags are the front of the rest, the check flips what is behind them.
 pub(crate) fn add(case: &Case, verdicts: &[u8], rest: &[u8]) -> io::Result<()> {
-    let (pads, checks) = rest.split_at(case.up_to(15, rest.len()));
+    let (pads, checks) = rest.split_at(case.up_to(Field::J, rest.len()));
     case.answered(added(handed_in(case), verdicts, pads, checks))
 }
 

@@ -1,5 +1,5 @@
 // Bus-invert's answers.
-use crate::fields::Case;
+use crate::fields::{Case, Field};
 use crate::say;
 use crate::say::Shown;
 use bus::Bus;
@@ -21,11 +21,11 @@ impl Shown for Bus {
 // A fresh bus, what is sent from the state handed in, what is received of it.
 pub(crate) fn all(case: &Case) -> Result<()> {
     let b = Bus {
-        width: case.half(6),
-        wires: case.half(7),
-        invert: case.byte(8),
+        width: case.half(Field::A),
+        wires: case.half(Field::B),
+        invert: case.byte(Field::C),
     };
     case.answered(Bus::fresh(b.width))?;
-    case.answered(b.send(case.half(9)))?;
+    case.answered(b.send(case.half(Field::D)))?;
     case.answered(bus::receive(b.width, b.wires, b.invert).map(u64::from))
 }

@@ -1,5 +1,5 @@
-// The calls that bench/ measures, exported to C on 64-bit numbers. An archive exports what its own crate defines: so each has the contract of
-// the call behind it once more.
+// The calls that bench/ measures, exported to C on 64-bit numbers. An archive exports what its own crate defines: so each has the
+// contract of the call behind it once more.
 #![tactic(auto)]
 
 ghost use Rattle.std.specs.Prelude.{◌≡◌, leb, length};

@@ -30,7 +30,8 @@ module _ (fs : List ℕ) (d v p c : Lent) where
   left_bytes (gives u) r = record { ys = r.ys; each = r.each; all = (r.«data», r.others.1) }
   left_bytes (refused n) (e, _, f, g) = (e, (f, (g, tt)))
 
-whole : (fs ds vs cs : List ℕ) → length fs % 8 ≡ 0 → length ds % 8 ≡ 0 → list_refusal (numbers_of fs) (numbers_of ds) vs cs ≡ bytes_refusal fs ds vs cs
+whole : (fs ds vs cs : List ℕ) → length fs % 8 ≡ 0 → length ds % 8 ≡ 0
+    → list_refusal (numbers_of fs) (numbers_of ds) vs cs ≡ bytes_refusal fs ds vs cs
 whole fs ds vs cs h k = rw (short_whole fs ds h k, numbers_len (length fs / 8) fs 0, h, k)
 
 module _ {fs : List ℕ} {d v p c : Lent} {a : Answer Unit} where

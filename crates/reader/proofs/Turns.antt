@@ -23,8 +23,8 @@ use Rattle.radix.proofs.Forms.{numbers_laws}
 use Rattle.decoding.specs.Found.{Found}
 use Rattle.reader.specs.ByTables.{read_by}
 
-pub record ShownIn {A : Type 0} (laid : List ℕ → List A → List A) (c b fs : List ℕ) (g : Answer Found → ℕ) (o₀ : List A) (i : ℕ) (o : List A)
-    : Type 0 where
+pub record ShownIn {A : Type 0} (laid : List ℕ → List A → List A) (c b fs : List ℕ) (g : Answer Found → ℕ) (o₀ : List A) (i : ℕ)
+    (o : List A) : Type 0 where
   pub shows : o ≡ laid (map g (map (read_by c b) (take i fs))) o₀
 
 module _ {A : Type 0} {laid : List ℕ → List A → List A} {c b fs : List ℕ} {g : Answer Found → ℕ} {o₀ : List A} where

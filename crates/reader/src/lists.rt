@@ -25,7 +25,8 @@ fn read_each<F: Form>(
     ensures pads { ShowsBy tables.now.corrections tables.now.sums pad_in (F.numbers frames.now) (lent pads) }
     ensures checks { ShowsBy tables.now.corrections tables.now.sums checks_in (F.numbers frames.now) (lent checks) }
 {
-    for i in 0..F::count(frames) {
+    // The bound says that data has place i too: a frame with flips then takes 7 instructions less.
+    for i in 0..F::count(frames).min(F::count(data)) {
         let s = sight_by(tables, F::number(frames, i));
         F::store(data, i, s.data);
         verdicts[i] = s.verdict;

@@ -25,7 +25,7 @@ loop-i-preserved g c =
     let l = c.loop-i in
     let a = c.args in
     let fs = g.F.Form.numbers a.frames.now in
-    let h : l.i < length fs = omega (arith, c.loop-i-test.true, c.count-i-end.ensures) in
+    let h : l.i < length fs = omega (arith, c.loop-i-test.true, c.min-i-end.ensures, c.count.ensures, c.count-2.ensures) in
     let room : l.i < length (g.F.Form.numbers a.«data».now) = omega (arith, h, c.requires.0) in
     let e = ap (read_by a.tables.now.corrections a.tables.now.sums) c.number.ensures in
     let D = ShownIn g.F.Form.laid a.tables.now.corrections a.tables.now.sums fs data_in a.«data».now (l.i + 1) in
@@ -43,7 +43,8 @@ loop-i-preserved g c =
 pub returns : goal.returns
 returns g c =
     let l = c.loop-i in
-    let h : length (g.F.Form.numbers c.args.frames.now) ≤ l.i = omega (arith, c.loop-i-test.false, c.count-i-end.ensures) in
+    let h : length (g.F.Form.numbers c.args.frames.now) ≤ l.i =
+    omega (arith, c.loop-i-test.false, c.min-i-end.ensures, c.count.ensures, c.count-2.ensures, c.requires.0) in
     record {
       «data» = in_end l.invariant.«data» h;
       verdicts = shown_end l.invariant.verdicts h;

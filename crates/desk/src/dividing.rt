@@ -48,15 +48,12 @@ fn written(rt: &HostRuntime, data: u64, frame: u64) -> std::io::Result<()> {
 }
 
 fn division_of(rt: &HostRuntime, data: u64) -> Result<(), Said> {
-    match maker::make(data) {
-        Ok(frame) => written(rt, data, frame).or_else(|e| cannot(
-            rt,
-            b"division: cannot write ",
-            b"the whole table",
-            e,
-        )),
-        Err(r) => refusal(rt, b"division: the data word is refused: ", r),
-    }
+    let frame = match maker::make(data) {
+        Ok(frame) => frame,
+        Err(r) => return refusal(rt, b"division: the data word is refused: ", r),
+    };
+    let table = written(rt, data, frame);
+    table.or_else(|e| cannot(rt, b"division: cannot write ", b"the whole table", e))
 }
 
 // A byte more than a word and its line end have, so that a longer input is seen to be longer.

@@ -25,12 +25,8 @@ fn written(rt: &HostRuntime, text: &[u8]) -> std::io::Result<()> {
 fn print(rt: &HostRuntime, u: Totals) -> Result<(), Said> {
     let mut text = [0u8; 512];
     let n = printout::text(u, &mut text);
-    written(rt, &text[..n]).or_else(|e| cannot(
-        rt,
-        b"listing: cannot write ",
-        b"the whole listing",
-        e,
-    ))
+    let listing = written(rt, &text[..n]);
+    listing.or_else(|e| cannot(rt, b"listing: cannot write ", b"the whole listing", e))
 }
 
 pub(crate) fn listing_of<R: Read + Drop>(

@@ -16,8 +16,9 @@ pub(crate) fn put_out(rt: &HostRuntime, path: &[u8], bytes: &[u8]) -> Result<(),
     files::fill(&mut file, bytes).map_err(Lost::Unwritten)
 }
 
-// What is told of a salvage: how many frames the capture has, the altered ones, their places, and the refused ones.
-#[derive(Clone, Copy)]
+// What is told of a salvage: how many frames the capture has, the altered ones and, entry by entry beside them as `salvage` fills both,
+// their places, and the refused ones.
+#[derive(Clone, Copy, Debug, PartialEq, Eq)]
 pub(crate) struct Account<'a> {
     pub(crate) frames: u64,
     pub(crate) altered: &'a [u64],

@@ -43,33 +43,42 @@ fn account(
     account.tell(rt).or_else(|e| cannot(rt, b"salvage: cannot write ", b"the whole account", e))
 }
 
-// The salvaged capture, in its file.
-fn written(rt: &HostRuntime, to: &mut [u8], file: &[u8]) -> Result<(), Said> {
-    let out = outcome::put_out(rt, to, file);
-    show(to);
-    match out {
-        Ok(()) => Ok(()),
-        Err(Lost::Unopened(e)) => cannot(rt, b"salvage: cannot open ", to, e),
-        Err(Lost::Unwritten(e)) => cannot(rt, b"salvage: cannot write ", to, e),
-    }
+// The file OUT: its name, and whether it is the file that was read.
+#[derive(Drop)]
+struct Target<'a> {
+    name: &'a mut [u8],
+    is_read: bool,
 }
 
-// The same, where that file is not the one that was read.
-fn delivered(rt: &HostRuntime, one: bool, to: &mut [u8], file: &[u8]) -> Result<(), Said> {
-    if one {
-        return say(rt, b"salvage: IN and OUT are one file\n");
+impl Target<'_> {
+    // The salvaged capture, in its file.
+    fn written(&mut self, rt: &HostRuntime, file: &[u8]) -> Result<(), Said> {
+        let out = outcome::put_out(rt, self.name, file);
+        show(self.name);
+        match out {
+            Ok(()) => Ok(()),
+            Err(Lost::Unopened(e)) => cannot(rt, b"salvage: cannot open ", self.name, e),
+            Err(Lost::Unwritten(e)) => cannot(rt, b"salvage: cannot write ", self.name, e),
+        }
     }
-    written(rt, to, file)
+
+    // The same, where that file is not the one that was read.
+    fn delivered(&mut self, rt: &HostRuntime, file: &[u8]) -> Result<(), Said> {
+        if self.is_read {
+            return say(rt, b"salvage: IN and OUT are one file\n");
+        }
+        self.written(rt, file)
+    }
 }
 
 // A capture, by the bytes of its file.
-fn salvage_of(rt: &HostRuntime, file: &mut [u8], one: bool, to: &mut [u8]) -> Result<(), Said> {
+fn salvage_of(rt: &HostRuntime, file: &mut [u8], to: &mut Target<'_>) -> Result<(), Said> {
     let mut altered = [0u64; 8000];
     let mut places = [0u64; 8000];
     let mut refused = [0u64; 8000];
     match salvage::salvage(file, &mut altered, &mut places, &mut refused) {
         Ok(k) => {
-            delivered(rt, one, to, file)?;
+            to.delivered(rt, file)?;
             account(rt, frames_of(file), k, &altered, &places, &refused)
         }
         Err(r) => refusal(rt, b"salvage: the capture is refused: ", r),
@@ -81,28 +90,22 @@ fn salvage_of_open(
     rt: &HostRuntime,
     mut opened: File,
     from: &[u8],
-    one: bool,
-    to: &mut [u8],
+    to: &mut Target<'_>,
 ) -> Result<(), Said> {
     let mut file = [0u8; 65537];
     match input::load(&mut opened, &mut file) {
-        Ok(Input::Full) => salvage_of(rt, &mut file, one, to),
-        Ok(Input::Last(n)) => salvage_of(rt, &mut file[..n], one, to),
+        Ok(Input::Full) => salvage_of(rt, &mut file, to),
+        Ok(Input::Last(n)) => salvage_of(rt, &mut file[..n], to),
         Err(e) => cannot(rt, b"salvage: cannot read ", from, e),
     }
 }
 
 // The file that is read stays open: where standard output is closed, no file that is written takes its place.
-fn salvage_of_paths(
-    rt: &HostRuntime,
-    from: &mut [u8],
-    one: bool,
-    to: &mut [u8],
-) -> Result<(), Said> {
+fn salvage_of_paths(rt: &HostRuntime, from: &mut [u8], to: &mut Target<'_>) -> Result<(), Said> {
     let opened = files::open(rt, from);
     show(from);
     match opened {
-        Ok(file) => salvage_of_open(rt, file, from, one, to),
+        Ok(file) => salvage_of_open(rt, file, from, to),
         Err(e) => cannot(rt, b"salvage: cannot open ", from, e),
     }
 }
@@ -122,5 +125,9 @@ pub(crate) fn salvage_of_files(rt: &HostRuntime, one: bool) -> Result<(), Said> 
     if from.starts_with(b"-") || to.starts_with(b"-") {
         return usage(rt);
     }
-    salvage_of_paths(rt, from, one, to)
+    let mut to = Target {
+        name: to,
+        is_read: one,
+    };
+    salvage_of_paths(rt, from, &mut to)
 }

@@ -99,6 +99,7 @@ fn next_head(rt: &HostRuntime) -> Result<Option<[u8; 128]>> {
 
 fn main(rt: HostRuntime) -> Result<()> {
     let mut buffer = [0u8; 65537];
+    // No input has so many heads.
     for _ in 0..1u64 << 41 {
         let Some(head) = next_head(&rt)? else {
             break;

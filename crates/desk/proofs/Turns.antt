@@ -1,52 +1,53 @@
 -- An input, buffer by buffer.
 -- ┌───────────┬────────────────────────────────────────────────────────────────────┐
 -- │ turn_of   │ what became of a buffer of whole frames is a turn                  │
--- │ begun     │ the first turn                                                     │
+-- │ begun     │ pieces that go on from fresh are pieces from fresh                 │
 -- │ went_on   │ one turn more                                                      │
+-- │ ended_at  │ the last turn                                                      │
 -- └───────────┴────────────────────────────────────────────────────────────────────┘
 use mathlib.Core.Path.{◌≡◌, sym, subst}
 use mathlib.Core.Bool.{true, false}
 use mathlib.Core.List.{List, [], ◌∷◌}
 use Prim.Native.Nat.{ℕ, ◌%◌}
 use lib.ListN.{length, take}
+use Rattle.std.specs.Prelude.{Result, Ok, Err, MatchResult, IfOk}
 use Rattle.input.specs.declared.Input.{Input}
-use Rattle.input.specs.declared.Input.TheVariants.{Full, Last, Failed}
+use Rattle.input.specs.declared.Input.TheVariants.{Full, Last}
+use Rattle.paper.specs.Answer.{answer}
+use Rattle.paper.specs.declared.Refusal.{Refusal}
 use Rattle.tally.specs.Counts.{fresh}
 use Rattle.tally.specs.declared.Tally.{Tally}
-use Rattle.lane.specs.Answers.{answer}
 use Rattle.lane.specs.Calls.{CountsPiece}
 use Rattle.lane.specs.Claims.{last, more}
 use Rattle.lane.specs.declared.Totals.{Totals}
-use Rattle.lane.specs.declared.Counted.{Counted}
-use Rattle.lane.specs.declared.Counted.TheVariants as count
-use Rattle.desk.specs.Parts.{state_of, TurnsTo, Turn, Ran}
+use Rattle.desk.specs.Parts.{state_of, TurnsTo, Turn, GoesOn, Ran}
 use Rattle.desk.specs.declared.counting.State.{State}
-use Rattle.desk.specs.declared.counting.State.TheVariants.{More, Done, Unread, Refused}
+use Rattle.desk.specs.declared.counting.State.TheVariants.{More, Done}
+use Rattle.desk.specs.declared.counting.Stop.{Stop}
 
-pub turn_of : (t : Tally) (bs : List ℕ) (i : Input) (r : State) → length bs % 8 ≡ 0 → TurnsTo t bs i r → Turn t r
+pub turn_of : {E : Type 0} (unread : E → Stop) (t : Tally) (bs : List ℕ) (i : Result Input E) (r : Result State Stop)
+    → length bs % 8 ≡ 0 → MatchResult i (λ i. TurnsTo t bs i r) (λ e. r ≡ Err (unread e)) → IfOk r (Turn t)
 unfolding Turn
-turn_of t bs Full r w (c, k, e) = subst (Turn t) (sym e) (by c k)
+turn_of unread t bs (Ok Full) r w (c, k, e) = subst (λ r. IfOk r (Turn t)) (sym e) (by c k)
   where
-    by : (c : Counted) → CountsPiece t bs (answer c) → Turn t (state_of c false)
-    by (count.Next u) k = (bs, w, k)
-    by (count.Refused n) k = tt
-turn_of t bs (Last n) r w (c, k, e) = subst (Turn t) (sym e) (by c k)
+    by : (c : Result Totals Refusal) → CountsPiece t bs (answer c) → IfOk (state_of c false) (Turn t)
+    by (Ok u) k = (bs, w, k)
+    by (Err n) k = tt
+turn_of unread t bs (Ok (Last n)) r w (c, k, e) = subst (λ r. IfOk r (Turn t)) (sym e) (by c k)
   where
-    by : (c : Counted) → CountsPiece t (take n bs) (answer c) → Turn t (state_of c true)
-    by (count.Next u) k = (take n bs, k)
-    by (count.Refused n) k = tt
-turn_of t bs Failed r w e = subst (Turn t) (sym e) tt
+    by : (c : Result Totals Refusal) → CountsPiece t (take n bs) (answer c) → IfOk (state_of c true) (Turn t)
+    by (Ok u) k = (take n bs, k)
+    by (Err n) k = tt
+turn_of unread t bs (Err s) r w e = subst (λ r. IfOk r (Turn t)) (sym e) tt
 
-pub begun : (r : State) → Turn fresh r → Ran r
-unfolding Turn Ran
-begun (More u) (bs, w, k) = λ bss v p. (bs ∷ bss, more w k p)
-begun (Done u) (bs, k) = (bs ∷ [], last k)
-begun Unread t = tt
-begun Refused t = tt
+pub begun : GoesOn fresh
+unfolding GoesOn
+begun bss w p = (bss, p)
 
-pub went_on : (u : Totals) (r : State) → Ran (More u) → Turn u.tally r → Ran r
-unfolding Turn Ran
-went_on u (More v) g (bs, w, k) = λ bss x p. g (bs ∷ bss) x (more w k p)
-went_on u (Done v) g (bs, k) = g (bs ∷ []) v (last k)
-went_on u Unread g t = tt
-went_on u Refused g t = tt
+pub went_on : (t : Tally) (u : Totals) → GoesOn t → Turn t (More u) → GoesOn u.tally
+unfolding GoesOn Turn
+went_on t u g (bs, w, k) = λ bss v p. g (bs ∷ bss) v (more w k p)
+
+pub ended_at : (t : Tally) (u : Totals) → GoesOn t → Turn t (Done u) → Ran u
+unfolding GoesOn Turn Ran
+ended_at t u g (bs, k) = g (bs ∷ []) u (last k)

@@ -1,65 +1,68 @@
 // The count of a whole input, buffer by buffer.
-ghost use Rattle.std.specs.Prelude.{◌≡◌};
+ghost use Rattle.std.specs.Prelude.{◌≡◌, IfOk, MatchResult, Err};
 ghost use Rattle.input.specs.Calls.{Fits};
-ghost use Rattle.desk.specs.Parts.{state_of, TurnsTo, Turn, Ran};
+ghost use Rattle.desk.specs.Parts.{TurnsTo, Turn, Ran};
+ghost use Rattle.desk.specs.declared.counting.Stop.TheVariants.{Unread, Refused};
 
 use input::Input;
-use lane::{Counted, Totals};
-use std::io::Read;
+use lane::Totals;
+use paper::Refusal;
+use std::io::{Error, Read};
 use tally::Tally;
 
-// What a run has come to: the totals so far, those of the whole input, or why it stopped.
-#[derive(Clone, Copy)]
+// What a buffer comes to: the totals so far, or those of the whole input.
+#[derive(Clone, Copy, Debug, PartialEq, Eq)]
 pub(crate) enum State {
     More(Totals),
     Done(Totals),
-    Unread,
-    Refused,
 }
 
-// What counting a buffer comes to: the last one ends the run.
-fn counted(c: Counted, last: bool) -> State
-    ensures { result ≡ state_of c last }
-{
-    match c {
-        Counted::Next(u) => { if last { State::Done(u) } else { State::More(u) } }
-        Counted::Refused(_) => State::Refused,
+// Why a run stopped before the input ended.
+#[derive(Clone, Copy, Debug)]
+pub(crate) enum Stop {
+    Unread(Error),
+    Refused,
+    Endless,
+}
+
+impl From<Refusal> for Stop {
+    ghost from_gives = { λ _ s. s ≡ Refused };
+
+    fn from(_r: Refusal) -> Stop {
+        Stop::Refused
     }
 }
 
-// What a buffer comes to, by what became of it.
-fn turned(t: Tally, buffer: &[u8], i: Input) -> State
-    requires { Fits i buffer.now }
-    ensures { TurnsTo t buffer.now i result }
+// What a buffer comes to, by what became of it: the last one ends the run.
+fn turned(t: Tally, buffer: &[u8], loaded: std::io::Result<Input>) -> Result<State, Stop>
+    requires { IfOk loaded (λ i. Fits i buffer.now) }
+    ensures { MatchResult loaded (λ i. TurnsTo t buffer.now i result) (λ e. result ≡ Err (Unread e)) }
 {
-    match i {
-        Input::Full => counted(lane::count(t, buffer), false),
-        Input::Last(n) => counted(lane::count(t, &buffer[..n]), true),
-        Input::Failed => State::Unread,
+    match loaded.map_err(Stop::Unread)? {
+        Input::Full => Ok(State::More(lane::count(t, buffer)?)),
+        Input::Last(n) => Ok(State::Done(lane::count(t, &buffer[..n])?)),
     }
 }
 
 // One buffer of input, counted on.
-fn one_turn<R: Read>(reader: &mut R, t: Tally) -> State
-    ensures { Turn t result }
+fn one_turn<R: Read>(reader: &mut R, t: Tally) -> Result<State, Stop>
+    ensures { IfOk result (Turn t) }
 {
     let mut buffer = io::large_buffer();
-    let i = input::load(reader, &mut buffer);
-    turned(t, &buffer, i)
+    let loaded = input::load(reader, &mut buffer);
+    turned(t, &buffer, loaded)
 }
 
 // The whole input. The tally is full long before the turns are used up.
-pub(crate) fn all<R: Read>(reader: &mut R) -> State
-    ensures { Ran result }
+pub(crate) fn all<R: Read>(reader: &mut R) -> Result<Totals, Stop>
+    ensures { IfOk result Ran }
 {
-    let mut state = one_turn(reader, Tally::fresh());
-    let mut turns = 1u64 << 41;
-    while 0 < turns {
-        let State::More(u) = state else {
-            return state;
-        };
-        state = one_turn(reader, u.tally);
-        turns -= 1;
+    let mut tally = Tally::fresh();
+    for _ in 0..1u64 << 41 {
+        match one_turn(reader, tally)? {
+            State::More(u) => tally = u.tally,
+            State::Done(u) => return Ok(u),
+        }
     }
-    state
+    Err(Stop::Endless)
 }

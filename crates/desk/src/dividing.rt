@@ -1,17 +1,13 @@
 // What division does with a data word, and what it says where it cannot.
-ghost use Rattle.desk.specs.Calls.{Status};
-ghost use Rattle.desk.specs.Parts.{Said};
+ghost use Rattle.std.specs.Prelude.{IsErr};
 
-use crate::asking::Asked;
-use crate::files::Source;
-use crate::saying::{cannot, refusal, say};
-use crate::{DONE, asking, steps};
+use crate::saying::{Said, cannot, refusal, say};
+use crate::{asking, steps};
 use input::Input;
-use maker::Making;
-use std::io::{Print, Result, Write};
+use std::io::{Print, Write};
 
-pub(crate) fn usage(rt: &HostRuntime) -> i32
-    ensures { Said result }
+pub(crate) fn usage(rt: &HostRuntime) -> Result<(), Said>
+    ensures { IsErr result }
 {
     say(
         rt,
@@ -20,22 +16,21 @@ pub(crate) fn usage(rt: &HostRuntime) -> i32
 }
 
 // A line: its front, and x as 16 hexadecimal digits.
-fn show_number(rt: &HostRuntime, front: &[u8], x: u64) -> Result<()> {
-    let digits = printout::hex_digits(x);
+fn show_number(rt: &HostRuntime, front: &[u8], x: u64) -> std::io::Result<()> {
     rt.write_all(front)?;
-    rt.write_all(&digits)?;
+    rt.write_all(&printout::hex_digits(x))?;
     rt.write_all(b"\n")
 }
 
 // The lines ahead of the steps: the data word, and v, which is divided.
-fn show_dividend(rt: &HostRuntime, data: u64, v: u64) -> Result<()> {
+fn show_dividend(rt: &HostRuntime, data: u64, v: u64) -> std::io::Result<()> {
     show_number(rt, b"data            ", data)?;
     rt.write_all(b"step  power  a  u(x) x^12, and what is left of it after each step\n")?;
     steps::show(rt, b"                ", v, 0, 63)
 }
 
 // The lines after the steps: the remainder, the code word, the pad in the column of x^62, and the frame.
-fn show_frame(rt: &HostRuntime, frame: u64) -> Result<()> {
+fn show_frame(rt: &HostRuntime, frame: u64) -> std::io::Result<()> {
     let word = frame / 2;
     steps::show(rt, b"b(x)            ", word, 51, 63)?;
     steps::show(rt, b"v(x)            ", word, 0, 63)?;
@@ -44,7 +39,7 @@ fn show_frame(rt: &HostRuntime, frame: u64) -> Result<()> {
 }
 
 // The whole table: that of the frame's word with its check bits 0.
-fn written(rt: &HostRuntime, data: u64, frame: u64) -> Result<()> {
+fn written(rt: &HostRuntime, data: u64, frame: u64) -> std::io::Result<()> {
     let v = frame / 8192 * 4096;
     show_dividend(rt, data, v)?;
     steps::show_steps(rt, v)?;
@@ -52,41 +47,28 @@ fn written(rt: &HostRuntime, data: u64, frame: u64) -> Result<()> {
     rt.stdout().flush()
 }
 
-fn division_of(rt: &HostRuntime, data: u64) -> i32
-    ensures { Status result }
-{
-    match maker::make(data) {
-        Making::Frame(f) => {
-            if let Err(e) = written(rt, data, f) {
-                return cannot(rt, b"division: cannot write ", b"the whole table", e);
-            }
-            DONE
-        }
-        Making::Refused(n) => refusal(rt, b"division: the data word is refused: ", n),
-    }
-}
-
-fn division_of_asked(rt: &HostRuntime, a: Asked) -> i32
-    ensures { Status result }
-{
-    match a {
-        Asked::Word(data) => division_of(rt, data),
-        Asked::Nothing => say(
-            rt,
-            b"division: standard input is not 16 hexadecimal digits\n",
-        ),
-    }
+fn division_of(rt: &HostRuntime, data: u64) -> Result<(), Said> {
+    let frame = match maker::make(data) {
+        Ok(frame) => frame,
+        Err(r) => return refusal(rt, b"division: the data word is refused: ", r),
+    };
+    let table = written(rt, data, frame);
+    table.or_else(|e| cannot(rt, b"division: cannot write ", b"the whole table", e))
 }
 
 // A byte more than a word and its line end have, so that a longer input is seen to be longer.
-pub(crate) fn division_of_input(rt: &HostRuntime) -> i32
-    ensures { Status result }
-{
+pub(crate) fn division_of_input(rt: &HostRuntime) -> Result<(), Said> {
     let mut text = [0u8; 19];
-    let mut source = Source::of(rt.stdin());
-    match input::load(&mut source, &mut text) {
-        Input::Full => division_of_asked(rt, Asked::Nothing),
-        Input::Last(n) => division_of_asked(rt, asking::word_of(&text, n)),
-        Input::Failed => cannot(rt, b"division: cannot read ", b"standard input", source.why),
+    let asked = match input::load(&mut rt.stdin(), &mut text) {
+        Ok(Input::Full) => None,
+        Ok(Input::Last(n)) => asking::word_of(&text[..n]),
+        Err(e) => return cannot(rt, b"division: cannot read ", b"standard input", e),
+    };
+    match asked {
+        Some(data) => division_of(rt, data),
+        None => say(
+            rt,
+            b"division: standard input is not 16 hexadecimal digits\n",
+        ),
     }
 }

@@ -1,16 +1,14 @@
 // What the listing does with its input, and what it says where it cannot.
-ghost use Rattle.desk.specs.Calls.{Status};
-ghost use Rattle.desk.specs.Parts.{Said};
+ghost use Rattle.std.specs.Prelude.{IsErr};
 
-use crate::counting::State;
-use crate::files::Source;
-use crate::saying::{cannot, say, show};
-use crate::{DONE, counting, files};
+use crate::counting::Stop;
+use crate::saying::{Said, cannot, say, show};
+use crate::{counting, files};
 use lane::Totals;
-use std::io::{Print, Read, Result, Write};
+use std::io::{Print, Read, Write};
 
-pub(crate) fn usage(rt: &HostRuntime) -> i32
-    ensures { Said result }
+pub(crate) fn usage(rt: &HostRuntime) -> Result<(), Said>
+    ensures { IsErr result }
 {
     say(
         rt,
@@ -19,37 +17,32 @@ pub(crate) fn usage(rt: &HostRuntime) -> i32
 }
 
 // The whole text.
-fn written(rt: &HostRuntime, text: &[u8]) -> Result<()> {
+fn written(rt: &HostRuntime, text: &[u8]) -> std::io::Result<()> {
     rt.write_all(text)?;
     rt.stdout().flush()
 }
 
-fn print(rt: &HostRuntime, u: Totals) -> i32
-    ensures { Status result }
-{
+fn print(rt: &HostRuntime, u: Totals) -> Result<(), Said> {
     let mut text = [0u8; 512];
     let n = printout::text(u, &mut text);
-    if let Err(e) = written(rt, &text[..n]) {
-        return cannot(rt, b"listing: cannot write ", b"the whole listing", e);
-    }
-    DONE
+    let listing = written(rt, &text[..n]);
+    listing.or_else(|e| cannot(rt, b"listing: cannot write ", b"the whole listing", e))
 }
 
-pub(crate) fn listing_of<R: Read + Drop>(rt: &HostRuntime, reader: R, name: &[u8]) -> i32
-    ensures { Status result }
-{
-    let mut source = Source::of(reader);
-    match counting::all(&mut source) {
-        State::Done(u) => print(rt, u),
-        State::More(_) => say(rt, b"listing: the input has no end\n"),
-        State::Unread => cannot(rt, b"listing: cannot read ", name, source.why),
-        State::Refused => say(rt, b"listing: more than 2^53 - 1 frames or check flips\n"),
+pub(crate) fn listing_of<R: Read + Drop>(
+    rt: &HostRuntime,
+    mut reader: R,
+    name: &[u8],
+) -> Result<(), Said> {
+    match counting::all(&mut reader) {
+        Ok(u) => print(rt, u),
+        Err(Stop::Unread(e)) => cannot(rt, b"listing: cannot read ", name, e),
+        Err(Stop::Refused) => say(rt, b"listing: more than 2^53 - 1 frames or check flips\n"),
+        Err(Stop::Endless) => say(rt, b"listing: the input has no end\n"),
     }
 }
 
-fn listing_of_path(rt: &HostRuntime, path: &mut [u8]) -> i32
-    ensures { Status result }
-{
+fn listing_of_path(rt: &HostRuntime, path: &mut [u8]) -> Result<(), Said> {
     let opened = files::open(rt, path);
     show(path);
     match opened {
@@ -59,16 +52,14 @@ fn listing_of_path(rt: &HostRuntime, path: &mut [u8]) -> i32
 }
 
 // The file that the first argument names. What begins with '-' asks for something that there is not.
-pub(crate) fn listing_of_file(rt: &HostRuntime) -> i32
-    ensures { Status result }
-{
-    let mut path = io::buffer();
-    let n = match files::argument(rt, 1, &mut path) {
-        Ok(n) => n,
+pub(crate) fn listing_of_file(rt: &HostRuntime) -> Result<(), Said> {
+    let mut buffer = io::buffer();
+    let path = match files::argument(rt, 1, &mut buffer) {
+        Ok(path) => path,
         Err(e) => return cannot(rt, b"listing: cannot open ", b"the file", e),
     };
-    if path[0] == b'-' {
+    if path.starts_with(b"-") {
         return usage(rt);
     }
-    listing_of_path(rt, &mut path[..n])
+    listing_of_path(rt, path)
 }

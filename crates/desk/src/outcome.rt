@@ -1,75 +1,64 @@
 // What becomes of a salvaged capture: the file that it is written to, and the account of it.
 use crate::files;
 use printout::Told;
-use std::io::{Error, Print, Result, Write};
+use std::io::{Error, Print, Write};
 
-// Whether the whole file is written, and what could not be done.
-#[derive(Clone, Copy)]
-pub(crate) enum Out {
-    Whole,
+// Why the salvaged capture is not in its file.
+#[derive(Clone, Copy, Debug)]
+pub(crate) enum Lost {
     Unopened(Error),
     Unwritten(Error),
 }
 
 // The bytes in the file of that name, made or emptied.
-pub(crate) fn put_out(rt: &HostRuntime, path: &[u8], bytes: &[u8]) -> Out {
-    match files::create(rt, path) {
-        Ok(file) => {
-            let mut to = file;
-            match files::fill(&mut to, bytes) {
-                Ok(()) => Out::Whole,
-                Err(e) => Out::Unwritten(e),
-            }
+pub(crate) fn put_out(rt: &HostRuntime, path: &[u8], bytes: &[u8]) -> Result<(), Lost> {
+    let mut file = files::create(rt, path).map_err(Lost::Unopened)?;
+    files::fill(&mut file, bytes).map_err(Lost::Unwritten)
+}
+
+// What is told of a salvage: how many frames the capture has, the altered ones and, entry by entry beside them as `salvage` fills both,
+// their places, and the refused ones.
+#[derive(Clone, Copy, Debug, PartialEq, Eq)]
+pub(crate) struct Account<'a> {
+    pub(crate) frames: u64,
+    pub(crate) altered: &'a [u64],
+    pub(crate) places: &'a [u64],
+    pub(crate) refused: &'a [u64],
+}
+
+impl Account<'_> {
+    fn tell_head(self, rt: &HostRuntime) -> std::io::Result<()> {
+        let altered = self.altered.len() as u64;
+        let refused = self.refused.len() as u64;
+        let mut text = [0u8; 128];
+        let n = printout::account_head(self.frames, altered, refused, &mut text);
+        rt.write_all(&text[..n])
+    }
+
+    // How far the account has come with its next line.
+    fn tell_line(self, rt: &HostRuntime, at: Told) -> std::io::Result<Told> {
+        let mut text = [0u8; 64];
+        let s = printout::account_line(self.altered, self.places, self.refused, at, &mut text);
+        rt.write_all(&text[..s.length])?;
+        Ok(s.told)
+    }
+
+    // A line for each entry.
+    fn tell_lines(self, rt: &HostRuntime) -> std::io::Result<()> {
+        let mut told = Told {
+            altered: 0,
+            refused: 0,
+        };
+        for _ in 0..self.altered.len() + self.refused.len() {
+            told = self.tell_line(rt, told)?;
         }
-        Err(e) => Out::Unopened(e),
+        Ok(())
     }
-}
 
-fn told_head(rt: &HostRuntime, frames: u64, altered: u64, refused: u64) -> Result<()> {
-    let mut text = [0u8; 128];
-    let n = printout::account_head(frames, altered, refused, &mut text);
-    rt.write_all(&text[..n])
-}
-
-// How far the account has come.
-fn told_line(
-    rt: &HostRuntime,
-    altered: &[u64],
-    places: &[u64],
-    refused: &[u64],
-    at: Told,
-) -> Result<Told> {
-    let mut text = [0u8; 64];
-    let s = printout::account_line(altered, places, refused, at, &mut text);
-    let n = s.length;
-    let told = s.told;
-    rt.write_all(&text[..n])?;
-    Ok(told)
-}
-
-// A line for each entry.
-fn told_lines(rt: &HostRuntime, altered: &[u64], places: &[u64], refused: &[u64]) -> Result<()> {
-    let mut told = Told {
-        altered: 0,
-        refused: 0,
-    };
-    let mut left = altered.len() + refused.len();
-    while 0 < left {
-        told = told_line(rt, altered, places, refused, told)?;
-        left -= 1;
+    // The whole account on standard output.
+    pub(crate) fn tell(self, rt: &HostRuntime) -> std::io::Result<()> {
+        self.tell_head(rt)?;
+        self.tell_lines(rt)?;
+        rt.stdout().flush()
     }
-    Ok(())
-}
-
-// The whole account on standard output.
-pub(crate) fn all_told(
-    rt: &HostRuntime,
-    frames: u64,
-    altered: &[u64],
-    places: &[u64],
-    refused: &[u64],
-) -> Result<()> {
-    told_head(rt, frames, altered.len() as u64, refused.len() as u64)?;
-    told_lines(rt, altered, places, refused)?;
-    rt.stdout().flush()
 }

@@ -1,18 +1,16 @@
 // What salvage does with a capture, and what it says where it cannot.
-ghost use Rattle.desk.specs.Calls.{Status};
-ghost use Rattle.desk.specs.Parts.{Said, Entries};
+ghost use Rattle.std.specs.Prelude.{IsErr};
+ghost use Rattle.desk.specs.Parts.{Entries};
 
-use crate::files::Source;
-use crate::outcome::Out;
-use crate::saying::{cannot, refusal, say, show};
-use crate::{DONE, SAID, files, outcome};
-use capture::Labelled;
+use crate::outcome::{Account, Lost};
+use crate::saying::{Said, cannot, refusal, say, show};
+use crate::{files, outcome};
 use input::Input;
-use salvage::{Counts, Salvaged};
+use salvage::Counts;
 use std::fs::File;
 
-pub(crate) fn usage(rt: &HostRuntime) -> i32
-    ensures { Said result }
+pub(crate) fn usage(rt: &HostRuntime) -> Result<(), Said>
+    ensures { IsErr result }
 {
     say(
         rt,
@@ -20,18 +18,9 @@ pub(crate) fn usage(rt: &HostRuntime) -> i32
     )
 }
 
-fn refused_with(rt: &HostRuntime, n: u8) -> i32
-    ensures { Said result }
-{
-    refusal(rt, b"salvage: the capture is refused: ", n)
-}
-
 // How many frames the salvaged capture has.
 fn frames_of(file: &[u8]) -> u64 {
-    match capture::head(file) {
-        Labelled::Found(h) => h.count as u64,
-        Labelled::Refused(_) => 0,
-    }
+    capture::head(file).map_or(0, |h| h.count as u64)
 }
 
 // The account on standard output, of lists with so many entries.
@@ -42,106 +31,103 @@ fn account(
     altered: &[u64],
     places: &[u64],
     refused: &[u64],
-) -> i32
+) -> Result<(), Said>
     requires { Entries k altered.now places.now refused.now }
-    ensures { Status result }
 {
-    let a = k.altered;
-    let r = k.refused;
-    match outcome::all_told(rt, frames, &altered[..a], &places[..a], &refused[..r]) {
-        Ok(()) => DONE,
-        Err(e) => cannot(rt, b"salvage: cannot write ", b"the whole account", e),
-    }
+    let account = Account {
+        frames,
+        altered: &altered[..k.altered],
+        places: &places[..k.altered],
+        refused: &refused[..k.refused],
+    };
+    account.tell(rt).or_else(|e| cannot(rt, b"salvage: cannot write ", b"the whole account", e))
 }
 
-// Whether the salvaged capture is in its file.
-fn written(rt: &HostRuntime, to: &mut [u8], file: &[u8]) -> bool {
-    let out = outcome::put_out(rt, to, file);
-    show(to);
-    match out {
-        Out::Whole => true,
-        Out::Unopened(e) => {
-            cannot(rt, b"salvage: cannot open ", to, e);
-            false
-        }
-        Out::Unwritten(e) => {
-            cannot(rt, b"salvage: cannot write ", to, e);
-            false
-        }
-    }
+// The file OUT: its name, and whether it is the file that was read.
+#[derive(Drop)]
+struct Target<'a> {
+    name: &'a mut [u8],
+    is_read: bool,
 }
 
-// The same, where that file is not the one that was read: `one` is 0.
-fn delivered(rt: &HostRuntime, one: i32, to: &mut [u8], file: &[u8]) -> bool {
-    if one != 0 {
-        say(rt, b"salvage: IN and OUT are one file\n");
-        return false;
+impl Target<'_> {
+    // The salvaged capture, in its file.
+    fn written(&mut self, rt: &HostRuntime, file: &[u8]) -> Result<(), Said> {
+        let out = outcome::put_out(rt, self.name, file);
+        show(self.name);
+        match out {
+            Ok(()) => Ok(()),
+            Err(Lost::Unopened(e)) => cannot(rt, b"salvage: cannot open ", self.name, e),
+            Err(Lost::Unwritten(e)) => cannot(rt, b"salvage: cannot write ", self.name, e),
+        }
     }
-    written(rt, to, file)
+
+    // The same, where that file is not the one that was read.
+    fn delivered(&mut self, rt: &HostRuntime, file: &[u8]) -> Result<(), Said> {
+        if self.is_read {
+            return say(rt, b"salvage: IN and OUT are one file\n");
+        }
+        self.written(rt, file)
+    }
 }
 
 // A capture, by the bytes of its file.
-fn salvage_of(rt: &HostRuntime, file: &mut [u8], one: i32, to: &mut [u8]) -> i32
-    ensures { Status result }
-{
+fn salvage_of(rt: &HostRuntime, file: &mut [u8], to: &mut Target<'_>) -> Result<(), Said> {
     let mut altered = [0u64; 8000];
     let mut places = [0u64; 8000];
     let mut refused = [0u64; 8000];
     match salvage::salvage(file, &mut altered, &mut places, &mut refused) {
-        Salvaged::Done(k) => {
-            if !delivered(rt, one, to, file) {
-                return SAID;
-            }
+        Ok(k) => {
+            to.delivered(rt, file)?;
             account(rt, frames_of(file), k, &altered, &places, &refused)
         }
-        Salvaged::Refused(n) => refused_with(rt, n),
+        Err(r) => refusal(rt, b"salvage: the capture is refused: ", r),
     }
 }
 
 // A byte more than a capture may have, so that a longer file is seen to be longer.
-fn salvage_of_open(rt: &HostRuntime, opened: File, from: &[u8], one: i32, to: &mut [u8]) -> i32
-    ensures { Status result }
-{
+fn salvage_of_open(
+    rt: &HostRuntime,
+    mut opened: File,
+    from: &[u8],
+    to: &mut Target<'_>,
+) -> Result<(), Said> {
     let mut file = [0u8; 65537];
-    let mut source = Source::of(opened);
-    match input::load(&mut source, &mut file) {
-        Input::Full => salvage_of(rt, &mut file, one, to),
-        Input::Last(n) => salvage_of(rt, &mut file[..n], one, to),
-        Input::Failed => cannot(rt, b"salvage: cannot read ", from, source.why),
+    match input::load(&mut opened, &mut file) {
+        Ok(Input::Full) => salvage_of(rt, &mut file, to),
+        Ok(Input::Last(n)) => salvage_of(rt, &mut file[..n], to),
+        Err(e) => cannot(rt, b"salvage: cannot read ", from, e),
     }
 }
 
 // The file that is read stays open: where standard output is closed, no file that is written takes its place.
-fn salvage_of_paths(rt: &HostRuntime, from: &mut [u8], one: i32, to: &mut [u8]) -> i32
-    ensures { Status result }
-{
+fn salvage_of_paths(rt: &HostRuntime, from: &mut [u8], to: &mut Target<'_>) -> Result<(), Said> {
     let opened = files::open(rt, from);
     show(from);
     match opened {
-        Ok(file) => salvage_of_open(rt, file, from, one, to),
+        Ok(file) => salvage_of_open(rt, file, from, to),
         Err(e) => cannot(rt, b"salvage: cannot open ", from, e),
     }
 }
 
 // The files that the arguments name. What begins with '-' asks for something that there is not.
-pub(crate) fn salvage_of_files(rt: &HostRuntime, one: i32) -> i32
-    ensures { Status result }
-{
-    let mut from = io::buffer();
-    let n = match files::argument(rt, 1, &mut from) {
-        Ok(n) => n,
+pub(crate) fn salvage_of_files(rt: &HostRuntime, one: bool) -> Result<(), Said> {
+    let mut buffer = io::buffer();
+    let from = match files::argument(rt, 1, &mut buffer) {
+        Ok(from) => from,
         Err(e) => return cannot(rt, b"salvage: cannot open ", b"the file IN", e),
     };
-    let mut to = io::buffer();
-    let m = match files::argument(rt, 2, &mut to) {
-        Ok(m) => m,
+    let mut buffer = io::buffer();
+    let to = match files::argument(rt, 2, &mut buffer) {
+        Ok(to) => to,
         Err(e) => return cannot(rt, b"salvage: cannot open ", b"the file OUT", e),
     };
-    if from[0] == b'-' {
+    if from.starts_with(b"-") || to.starts_with(b"-") {
         return usage(rt);
     }
-    if to[0] == b'-' {
-        return usage(rt);
-    }
-    salvage_of_paths(rt, &mut from[..n], one, &mut to[..m])
+    let mut to = Target {
+        name: to,
+        is_read: one,
+    };
+    salvage_of_paths(rt, from, &mut to)
 }

@@ -1,9 +1,13 @@
 // What the programs say on standard error.
-ghost use Rattle.desk.specs.Parts.{Said};
+ghost use Rattle.std.specs.Prelude.{IsErr};
 
-use crate::SAID;
 use crate::reason::Reason;
+use paper::Refusal;
 use std::io::{Eprint, Error, Print};
+
+// A line on standard error says why the work is not done.
+#[derive(Clone, Copy, Debug, PartialEq, Eq)]
+pub(crate) struct Said;
 
 // Where standard error cannot be written, there is nobody left to tell.
 fn put(rt: &HostRuntime, text: &[u8]) {
@@ -14,33 +18,32 @@ fn put(rt: &HostRuntime, text: &[u8]) {
 fn because(rt: &HostRuntime, this: &[u8], why: Error) {
     put(rt, this);
     put(rt, b": ");
-    let reason = Reason::of(why);
-    put(rt, reason.text());
+    put(rt, Reason::of(why).text().as_bytes());
     put(rt, b"\n");
 }
 
 // A line on standard error: it cannot do that with this, and why.
-pub(crate) fn cannot(rt: &HostRuntime, do_it: &[u8], this: &[u8], why: Error) -> i32
-    ensures { Said result }
+pub(crate) fn cannot(rt: &HostRuntime, do_it: &[u8], this: &[u8], why: Error) -> Result<(), Said>
+    ensures { IsErr result }
 {
     put(rt, do_it);
     because(rt, this, why);
-    SAID
+    Err(Said)
 }
 
-pub(crate) fn say(rt: &HostRuntime, line: &[u8]) -> i32
-    ensures { Said result }
+pub(crate) fn say(rt: &HostRuntime, line: &[u8]) -> Result<(), Said>
+    ensures { IsErr result }
 {
     put(rt, line);
-    SAID
+    Err(Said)
 }
 
 // A line on standard error: the paper's number of a refusal, after what is refused.
-pub(crate) fn refusal(rt: &HostRuntime, this: &[u8], n: u8) -> i32
-    ensures { Said result }
+pub(crate) fn refusal(rt: &HostRuntime, this: &[u8], r: Refusal) -> Result<(), Said>
+    ensures { IsErr result }
 {
     put(rt, this);
-    let _ = rt.eprint(n);
+    let _ = rt.eprint(r);
     say(rt, b"\n")
 }
 

@@ -45,10 +45,8 @@ fn columns(r: u64, first: usize, end: usize) -> [u8; 64]
     ensures { Shows r first end result }
 {
     let mut line = [b' '; 64];
-    let mut i = first;
-    while i < end {
+    for i in first..end {
         line[i] = digit((r >> (62 - i)) % 2);
-        i += 1;
     }
     line[end] = b'\n';
     line
@@ -86,10 +84,8 @@ fn show_step(rt: &HostRuntime, v: u64, j: u64) -> Result<()>
 pub(crate) fn show_steps(rt: &HostRuntime, v: u64) -> Result<()>
     requires { v < 2 ^ 63 }
 {
-    let mut j = 0;
-    while j < 51 {
+    for j in 0..51 {
         show_step(rt, v, j)?;
-        j += 1;
     }
     Ok(())
 }

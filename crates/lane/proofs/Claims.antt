@@ -14,7 +14,7 @@ use Rattle.paper.specs.Numbers.{unfit}
 use Rattle.paper.specs.Answer.{gives, owed}
 use Rattle.paper.proofs.Answer.{answer_one, given, never_both}
 use Rattle.laws.specs.Bits.{joining}
-use Rattle.tally.specs.declared.fold.Told.{Told}
+use Rattle.tally.specs.Told.{Told}
 use Rattle.tally.specs.Ranges.{frames_in}
 use Rattle.tally.specs.Counts.{fresh}
 use Rattle.tally.specs.Fold.{after}

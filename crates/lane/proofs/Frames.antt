@@ -25,7 +25,7 @@ use Rattle.decoding.specs.Reads.{Reads}
 use Rattle.reader.specs.Claims.{Numbers}
 use Rattle.decoding.proofs.Demands.{some_answer, one_answer}
 use Rattle.decoding.proofs.Exactly.{few_checks}
-use Rattle.tally.specs.declared.fold.Told.{Told}
+use Rattle.tally.specs.Told.{Told}
 use Rattle.tally.specs.Ranges.{is_flag, is_known, known}
 use Rattle.tally.proofs.Verdicts.{is_accepted}
 use Rattle.lane.specs.Seen.{telling, Seen}

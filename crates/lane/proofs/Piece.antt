@@ -21,8 +21,7 @@ use Rattle.laws.proofs.Writing.{over_fits, each_length}
 use Rattle.radix.proofs.Joined.{numbers_len}
 use Rattle.decoding.specs.Found.{Found}
 use Rattle.reader.specs.Answers.{verdict, pad_in, checks_in}
-use Rattle.tally.specs.Told.{told}
-use Rattle.tally.specs.declared.fold.Told.{Told}
+use Rattle.tally.specs.Told.{Told, told}
 use Rattle.tally.specs.Fold.{after}
 use Rattle.tally.specs.Calls.{refusal, Adds}
 use Rattle.tally.specs.Parts.{Alike}

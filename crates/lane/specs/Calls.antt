@@ -8,7 +8,7 @@
 use Rattle.std.specs.Prelude.{◌≡◌, List, ◌⊎◌, ℕ, ◌%◌, ◌<◌, ◌≤◌, length}
 use Rattle.paper.specs.Numbers.{unfit, most_bytes}
 use Rattle.paper.specs.Answer.{Answer, refused, owed}
-use Rattle.tally.specs.declared.fold.Told.{Told}
+use Rattle.tally.specs.Told.{Told}
 use Rattle.tally.specs.Ranges.{frames_in}
 use Rattle.tally.specs.Fold.{after}
 use Rattle.tally.specs.Calls.{refusal}

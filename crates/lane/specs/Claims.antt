@@ -15,7 +15,7 @@ use Rattle.std.specs.Prelude.{◌≡◌, true, List, [], ◌∷◌, ℕ, ◌/◌
 use Rattle.paper.specs.Answer.{gives, answer}
 use Rattle.paper.specs.declared.Refusal.{Refusal}
 use Rattle.laws.specs.Bits.{Octets, joining}
-use Rattle.tally.specs.declared.fold.Told.{Told}
+use Rattle.tally.specs.Told.{Told}
 use Rattle.tally.specs.Ranges.{known}
 use Rattle.tally.specs.Counts.{fresh, counts}
 use Rattle.tally.specs.declared.Tally.{Tally}

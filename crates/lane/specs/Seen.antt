@@ -11,7 +11,7 @@ use Rattle.radix.specs.Octets.{numbers_of}
 use Rattle.decoding.specs.Found.{Found}
 use Rattle.reader.specs.Answers.{verdict, pad_in, checks_in}
 use Rattle.decoding.specs.Reads.{Reads}
-use Rattle.tally.specs.declared.fold.Told.{Told}
+use Rattle.tally.specs.Told.{Told}
 
 abbrev pub telling : Answer Found → Told
 telling a = record { verdict = verdict a; pad = pad_in a; checks = checks_in a }

@@ -28,6 +28,7 @@ struct Sights {
 }
 
 // The totals after a piece of so many bytes.
+#[tactic(auto, unfolding(tally::specs::Calls::Sums))]
 fn with_frames(t: Tally, bytes: usize) -> Result<Totals, Refusal>
     requires { in_range t ≡ true }
     ensures { result ≡ Ok (totals_of t (bytes % 8)) }

@@ -5,7 +5,7 @@ ghost use Rattle.salvage.specs.Parts.{Same};
 use crate::Counts;
 
 // Lent lists, and how many entries stand at their fronts: the indices of altered frames, beside these their places, and the indices of
-// refused frames.
+// refused frames. A lifetime for each, so that whoever lent one knows it again at the end.
 #[derive(Drop)]
 pub(crate) struct Lists<'a, 'p, 'r> {
     altered: &'a mut [u64],
@@ -21,23 +21,19 @@ impl<'a, 'p, 'r> Lists<'a, 'p, 'r> {
         places: &'p mut [u64],
         refused: &'r mut [u64],
     ) -> Lists<'a, 'p, 'r>
-        ensures same_altered { result.altered.ghost_name ≡ altered.entry.ghost_name }
-        ensures same_places { result.places.ghost_name ≡ places.entry.ghost_name }
-        ensures same_refused { result.«refused».ghost_name ≡ «refused».entry.ghost_name }
-        ensures altered { result.altered.now ≡ altered.old }
-        ensures places { result.places.now ≡ places.old }
-        ensures refused { result.«refused».now ≡ «refused».old }
+        ensures altered { result.altered ≡ altered.entry }
+        ensures places { result.places ≡ places.entry }
+        ensures refused { result.«refused» ≡ «refused».entry }
         ensures counts { result.counts ≡ record { altered = 0; «refused» = 0 } }
     {
-        let counts = Counts {
-            altered: 0,
-            refused: 0,
-        };
         Lists {
             altered,
             places,
             refused,
-            counts,
+            counts: Counts {
+                altered: 0,
+                refused: 0,
+            },
         }
     }
 

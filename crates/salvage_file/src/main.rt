@@ -33,9 +33,6 @@ fn is_asked_of_one(rt: &HostRuntime) -> bool {
 }
 
 fn main(rt: HostRuntime) -> ExitCode {
-    let one = if is_asked_of_one(&rt) { 1 } else { 0 };
-    match desk::lks_salvage(&rt, one) {
-        0 => ExitCode::SUCCESS,
-        _ => ExitCode::FAILURE,
-    }
+    let one = i32::from(is_asked_of_one(&rt));
+    ExitCode::from(desk::lks_salvage(&rt, one) as u8)
 }

@@ -15,10 +15,10 @@ const RUN_BROKEN: u8 = Refusal::RunBroken as u8;
 
 // What a tally is told of one frame: its verdict byte, its pad flag, its check flips.
 #[derive(Clone, Copy, Debug, PartialEq, Eq)]
-pub struct Told {
-    pub verdict: u8,
-    pub pad: u8,
-    pub checks: u8,
+struct Told {
+    verdict: u8,
+    pad: u8,
+    checks: u8,
 }
 
 impl Told {

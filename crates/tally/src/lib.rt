@@ -9,7 +9,6 @@ ghost use Rattle.tally.specs.Calls.{Adds, Sums};
 mod fold;
 mod range;
 
-pub use fold::Told;
 use paper::Refusal;
 
 // How many frames were clean, had one or two flips, were 13 or 14; of the accepted ones, how many had a wrong pad; how many of all their

@@ -1,12 +1,14 @@
 -- What `all` has come to goes on with each turn.
-use mathlib.Core.Path.{subst}
-use Rattle.tally.specs.declared.Tally.{Tally}
-use Rattle.desk.specs.Parts.{Turn, Ran}
-use Rattle.desk.proofs.Turns.{begun, went_on}
+use mathlib.Core.Path.{subst, sym}
+use Rattle.desk.specs.Parts.{GoesOn}
+use Rattle.desk.proofs.Turns.{begun, went_on, ended_at}
 use Rattle.desk.proofs.counting.all.Goals as goal
 
-pub loop-turns-init : goal.loop-turns-init
-loop-turns-init g c = begun _ (subst (λ (t : Tally). Turn t c.one_turn-state.result) c.fresh.ensures c.one_turn-state.ensures)
+pub loop-init : goal.loop-init
+loop-init g c = subst GoesOn (sym c.fresh-tally.ensures) begun
 
-pub loop-turns-preserved : goal.loop-turns-preserved
-loop-turns-preserved g c = went_on _ _ (subst Ran c.in-More.is c.loop-turns.invariant) c.one_turn-state-in-loop-turns.ensures
+pub loop-preserved : goal.loop-preserved
+loop-preserved g c = went_on _ _ c.loop.invariant (rw c.in-More.is at c.in_ok-u.ensures)
+
+pub returns-in-Done : goal.returns-in-Done
+returns-in-Done g c = ended_at _ _ c.loop.invariant (rw c.in-Done.is at c.in_ok-u.ensures)

@@ -1,9 +1,6 @@
--- What `all` has come to goes on with each turn; the turns fall.
-use Rattle.desk.specs.Parts.{Ran}
+-- Pieces that follow go on to pieces from fresh.
+use Rattle.desk.specs.Parts.{GoesOn}
 use Rattle.desk.proofs.counting.all.Given as goal
 
-abbrev pub invariant-loop-turns : goal.invariant-loop-turns
-invariant-loop-turns g l = Ran l.state
-
-abbrev pub decreases-loop-turns : goal.decreases-loop-turns
-decreases-loop-turns g l = l.turns
+abbrev pub invariant-loop : goal.invariant-loop
+invariant-loop g l = GoesOn l.tally

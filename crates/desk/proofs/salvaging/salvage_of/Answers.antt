@@ -10,7 +10,7 @@ counts n xs h = (h, sym (length-take-le n xs h))
 
 pub account-requires : goal.account-requires
 account-requires c =
-    let f = entries_fit _ _ _ _ _ c.in-Done.ensures in
+    let f = entries_fit _ _ _ _ _ c.in-Ok.ensures in
     record {
       altered = counts _ _ f.0;
       places = counts _ _ f.1;

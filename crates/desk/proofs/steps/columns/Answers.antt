@@ -4,4 +4,4 @@ use Rattle.desk.proofs.steps.columns.Goals as goal
 
 pub loop-i-init : goal.loop-i-init
 loop-i-init c =
-    (omega arith, c.requires.0, refl, (λ k l. get_or-replicate 64 k 32 0 (omega arith)), (λ k l m. absurd (let f : ⊥ = omega arith in f)))
+    (refl, (λ k l. get_or-replicate 64 k 32 0 (omega arith)), (λ k l m. absurd (let f : ⊥ = omega arith in f)))

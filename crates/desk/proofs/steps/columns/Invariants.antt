@@ -9,7 +9,4 @@ abbrev pub Shown : ℕ → ℕ → ℕ → List ℕ → Type 0
 Shown r first i cs = (k : ℕ) → first ≤ k → k < i → get_or cs k 0 ≡ 48 + coefficient r (62 - k)
 
 abbrev pub invariant-loop-i : goal.invariant-loop-i
-invariant-loop-i l = (l.first ≤ l.i) × (l.i ≤ l.end) × (64 ≡ length l.line) × Blank l.first l.line × Shown l.r l.first l.i l.line
-
-abbrev pub decreases-loop-i : goal.decreases-loop-i
-decreases-loop-i l = l.end - l.i
+invariant-loop-i l = (64 ≡ length l.line) × Blank l.first l.line × Shown l.r l.first l.i l.line

@@ -2,7 +2,7 @@
 -- ┌──────────────────────────────────┬──────────────────────────────────────────────┐
 -- │ one_start, one_send, one_receive │ of each call                                 │
 -- └──────────────────────────────────┴──────────────────────────────────────────────┘
-use mathlib.Core.Path.{◌≡◌, refl, sym, ◌∙◌}
+use mathlib.Core.Path.{sym, ◌∙◌}
 use Rattle.paper.proofs.Answer.{answer_one}
 use Rattle.bus.specs.Claims.{OneStart, OneSend, OneReceive}
 

@@ -20,32 +20,6 @@ pub struct Bus {
     pub invert: u8,
 }
 
-// Whether these are wires of a bus: what row 11 asks of a state handed in, of data to be sent and of what is received.
-fn in_range(b: Bus) -> bool
-    ensures { result ≡ in_range b }
-{
-    1 <= b.width && b.width <= WIDEST && b.wires < 1 << b.width && b.invert <= 1
-}
-
-// All wires of a bus as one number, the invert wire above the data wires: 32 bits at the widest.
-fn all_wires(width: u32, wires: u32, invert: u8) -> u32
-    requires { (width ≤ widest) × (wires < 2 ^ width) × (invert ≤ 1) }
-    ensures { result ≡ invert * 2 ^ width + wires }
-{
-    (u32::from(invert) << width) + wires
-}
-
-// The rule by which the sender inverts.
-fn crowded(b: Bus, data: u32) -> bool
-    requires { (in_range b ≡ true) × (in_range (rule.plain b.width «data») ≡ true) }
-    ensures { result ≡ rule.crowded b «data» }
-{
-    // Data as it is has the invert wire cleared: it is the number of all wires itself.
-    let changing = (all_wires(b.width, b.wires, b.invert) ^ data).count_ones();
-    // The data inverted changes the wires that it leaves.
-    b.width + 1 - changing < changing
-}
-
 fn inverted(width: u32, wires: u32) -> u32
     requires { (width ≤ widest) × (wires < 2 ^ width) }
     ensures { result ≡ bits.inverted width wires }
@@ -77,12 +51,38 @@ fn turned_over(width: u32, data: u32) -> Bus
 }
 
 impl Bus {
+    // Whether these are wires of a bus: what row 11 asks of a state handed in, of data to be sent and of what is received.
+    fn in_range(self) -> bool
+        ensures { result ≡ in_range self }
+    {
+        1 <= self.width && self.width <= WIDEST && self.wires < 1 << self.width && self.invert <= 1
+    }
+
+    // All wires as one number, the invert wire above the data wires: 32 bits at the widest.
+    fn all_wires(self) -> u32
+        requires { in_range self ≡ true }
+        ensures { result ≡ self.invert * 2 ^ self.width + self.wires }
+    {
+        (u32::from(self.invert) << self.width) + self.wires
+    }
+
+    // The rule by which the sender inverts.
+    fn crowded(self, data: u32) -> bool
+        requires { (in_range self ≡ true) × (in_range (rule.plain self.width «data») ≡ true) }
+        ensures { result ≡ rule.crowded self «data» }
+    {
+        // Data as it is has the invert wire cleared: it is the number of all wires itself.
+        let changing = (self.all_wires() ^ data).count_ones();
+        // The data inverted changes the wires that it leaves.
+        self.width + 1 - changing < changing
+    }
+
     // A bus at rest.
     pub fn fresh(width: u32) -> Result<Bus, Refusal>
         ensures { Starts width result }
     {
         let rest = plain(width, 0);
-        if in_range(rest) {
+        if rest.in_range() {
             Ok(rest)
         } else {
             Err(Refusal::Outside)
@@ -93,14 +93,14 @@ impl Bus {
     pub fn send(self, data: u32) -> Result<Bus, Refusal>
         ensures { Sends self «data» result }
     {
-        if !in_range(self) {
+        if !self.in_range() {
             return Err(Refusal::Outside);
         }
         let as_it_is = plain(self.width, data);
-        if !in_range(as_it_is) {
+        if !as_it_is.in_range() {
             return Err(Refusal::Outside);
         }
-        if crowded(self, data) {
+        if self.crowded(data) {
             Ok(turned_over(self.width, data))
         } else {
             Ok(as_it_is)
@@ -112,11 +112,12 @@ impl Bus {
 pub fn receive(width: u32, wires: u32, invert: u8) -> Result<u32, Refusal>
     ensures { Receives width wires invert result }
 {
-    if !in_range(Bus {
+    let sent = Bus {
         width,
         wires,
         invert,
-    }) {
+    };
+    if !sent.in_range() {
         return Err(Refusal::Outside);
     }
     if invert == 0 {

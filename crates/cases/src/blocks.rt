@@ -1,18 +1,30 @@
 // The hierarchical code's answers.
-use crate::{fields, say};
-use hier::{Coded, Reading};
+use crate::fields::{Case, Field};
+use crate::say;
+use crate::say::Shown;
+use hier::Decoded;
 use std::io::Result;
 
-pub(crate) fn make(rt: &HostRuntime, head: &[u8]) -> Result<()> {
-    match hier::make(fields::byte(head, 6)) {
-        Coded::Block(b) => print!(rt; "{b:04x}"),
-        Coded::Refused(n) => say::refused(rt, n),
+// A block, as its four digits.
+#[derive(Clone, Copy)]
+struct Block(u16);
+
+impl Shown for Block {
+    fn show(self, rt: &HostRuntime) -> Result<()> {
+        print!(rt; "{:04x}", self.0)
     }
 }
 
-pub(crate) fn read(rt: &HostRuntime, head: &[u8]) -> Result<()> {
-    match hier::read((octets::number(head, 6) % 65536) as u16) {
-        Reading::Word(w) => say::two(rt, w.data as u64, w.flips as u64),
-        Reading::Refused(n) => say::refused(rt, n),
+impl Shown for Decoded {
+    fn show(self, rt: &HostRuntime) -> Result<()> {
+        say::numbers(rt, &[u64::from(self.data), u64::from(self.flips)])
     }
+}
+
+pub(crate) fn make(case: &Case) -> Result<()> {
+    case.answered(hier::make(case.byte(Field::A)).map(Block))
+}
+
+pub(crate) fn read(case: &Case) -> Result<()> {
+    case.answered(hier::read((case.number(Field::A) % 65536) as u16))
 }

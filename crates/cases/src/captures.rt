@@ -1,104 +1,78 @@
-// The answers of capture files. A lent list holds ee in every byte before the call, so that the line shows what was left alone.
-use crate::{fields, say};
-use capture::{Filed, Labelled};
-use std::io::Result;
+// The answers of capture files. What is written from numbers and from bytes, or read as either, goes one way; the calls on bytes in
+// closures, since the check knows no contract of a function that is named where its crate only re-exports it.
+use crate::fields::{Case, Field};
+use crate::say;
+use crate::say::{Item, Manner, Shown};
+use capture::Label;
+use paper::Refusal;
+use std::io;
 
-fn filed(rt: &HostRuntime, r: Filed) -> Result<()> {
-    match r {
-        Filed::Length(n) => say::number(rt, n as u64),
-        Filed::Refused(n) => say::refused(rt, n),
+impl Shown for Label {
+    fn show(self, rt: &HostRuntime) -> io::Result<()> {
+        say::numbers(rt, &[u64::from(self.lane), self.count as u64])
     }
 }
 
-fn file_numbers(
-    rt: &HostRuntime,
-    head: &[u8],
-    frames: &[u64],
-    notes: &[u8],
-    out: &mut [u8],
-) -> Result<()> {
-    filed(
-        rt,
-        capture::write(fields::half(head, 6), frames, notes, out),
-    )?;
-    say::left(rt, fields::asked(head, 8), out)
-}
-
-fn file_bytes(
-    rt: &HostRuntime,
-    head: &[u8],
-    frames: &[u8],
-    notes: &[u8],
-    out: &mut [u8],
-) -> Result<()> {
-    filed(
-        rt,
-        capture::write_bytes(fields::half(head, 6), frames, notes, out),
-    )?;
-    say::left(rt, fields::asked(head, 8), out)
-}
-
-fn write_numbers(rt: &HostRuntime, head: &[u8], frames: &[u64], notes: &[u8]) -> Result<()> {
-    let mut out = [0xeeu8; 65600];
-    let n = fields::within(head, 7, &out);
-    file_numbers(rt, head, frames, notes, &mut out[..n])
-}
-
-fn write_bytes(rt: &HostRuntime, head: &[u8], frames: &[u8], notes: &[u8]) -> Result<()> {
-    let mut out = [0xeeu8; 65600];
-    let n = fields::within(head, 7, &out);
-    file_bytes(rt, head, frames, notes, &mut out[..n])
-}
-
-// The whole eights of the bytes, as numbers; 0 behind them.
-pub(crate) fn numbers(bytes: &[u8], list: &mut [u64]) {
-    let mut i = 0;
-    while i < list.len() {
-        list[i] = octets::number(bytes, i);
-        i += 1;
+// The whole eights of the bytes, as numbers.
+pub(crate) fn eights<'a>(bytes: &[u8], list: &'a mut [u64; 8192]) -> &'a [u64] {
+    for (i, x) in list.iter_mut().enumerate() {
+        *x = octets::number(bytes, i);
     }
+    &list[..(bytes.len() / 8).min(8192)]
 }
 
-pub(crate) fn write(rt: &HostRuntime, head: &[u8], frames: &[u8], notes: &[u8]) -> Result<()> {
+fn written<T, F: FnOnce(u32, &[T], &[u8], &mut [u8]) -> Result<usize, Refusal>>(
+    case: &Case,
+    frames: &[T],
+    notes: &[u8],
+    by: F,
+) -> io::Result<()>
+    requires { F.IsAlwaysCallable by }
+{
+    let mut out = [u8::UNTOUCHED; 65600];
+    let out = case.front(Field::B, &mut out);
+    case.answered(by(case.half(Field::A), frames, notes, out).map(|n| n as u64))?;
+    case.left(case.manner(Field::C), out)
+}
+
+pub(crate) fn write(case: &Case, frames: &[u8], notes: &[u8]) -> io::Result<()> {
     let mut list = [0u64; 8192];
-    numbers(frames, &mut list);
-    let n = fields::up_to(frames.len() / 8, &list);
-    write_numbers(rt, head, &list[..n], notes)?;
-    write_bytes(rt, head, frames, notes)
+    written(case, eights(frames, &mut list), notes, capture::write)?;
+    written(
+        case,
+        frames,
+        notes,
+        |lane, frames, notes, out| capture::write_bytes(lane, frames, notes, out),
+    )
 }
 
-fn labelled(rt: &HostRuntime, r: Labelled) -> Result<()> {
-    match r {
-        Labelled::Found(l) => say::two(rt, l.lane as u64, l.count as u64),
-        Labelled::Refused(n) => say::refused(rt, n),
-    }
+fn taken<T: Item, F: FnOnce(&[u8], &mut [T]) -> Result<Label, Refusal>>(
+    case: &Case,
+    file: &[u8],
+    frames: &mut [T],
+    by: F,
+) -> io::Result<()>
+    requires { F.IsAlwaysCallable by }
+{
+    case.answered(by(file, frames))?;
+    case.left(Manner::InShort, frames)
 }
 
-fn take_numbers(rt: &HostRuntime, file: &[u8], frames: &mut [u64]) -> Result<()> {
-    labelled(rt, capture::read(file, frames))?;
-    say::numbers(rt, frames)
-}
-
-fn take_bytes(rt: &HostRuntime, file: &[u8], frames: &mut [u8]) -> Result<()> {
-    labelled(rt, capture::read_bytes(file, frames))?;
-    say::list(rt, frames)
-}
-
-fn read_numbers(rt: &HostRuntime, head: &[u8], file: &[u8]) -> Result<()> {
-    let mut frames = [0xeeee_eeee_eeee_eeeeu64; 8100];
-    let n = fields::up_to(fields::half(head, 6) as usize, &frames);
-    take_numbers(rt, file, &mut frames[..n])
-}
-
-fn read_bytes(rt: &HostRuntime, head: &[u8], file: &[u8]) -> Result<()> {
-    let mut frames = [0xeeu8; 64900];
-    let n = fields::within(head, 7, &frames);
-    take_bytes(rt, file, &mut frames[..n])
-}
-
-pub(crate) fn read(rt: &HostRuntime, head: &[u8], file: &[u8]) -> Result<()> {
-    labelled(rt, capture::head(file))?;
-    read_numbers(rt, head, file)?;
-    read_bytes(rt, head, file)?;
-    say::list(rt, capture::notes(file))
+pub(crate) fn read(case: &Case, file: &[u8]) -> io::Result<()> {
+    let mut numbers = [u64::UNTOUCHED; 8100];
+    let mut bytes = [u8::UNTOUCHED; 64900];
+    case.answered(capture::head(file))?;
+    taken(
+        case,
+        file,
+        case.front(Field::A, &mut numbers),
+        capture::read,
+    )?;
+    taken(
+        case,
+        file,
+        case.front(Field::B, &mut bytes),
+        |file, frames| capture::read_bytes(file, frames),
+    )?;
+    case.left(Manner::InShort, capture::notes(file))
 }

@@ -1,32 +1,85 @@
-// The fields of a case's head. Those of fewer than eight bytes are the low ones of a number.
-ghost use Rattle.io.specs.Counts.{IsPrefixLen};
+// A case: where it is answered, and the fields of its head. Those of fewer than eight bytes are the low ones of a number.
+ghost use Rattle.std.specs.Prelude.{◌≤◌};
 
-pub(crate) fn byte(head: &[u8], i: usize) -> u8 {
-    (octets::number(head, i) % 256) as u8
+use crate::say;
+use crate::say::{Item, Manner, Shown};
+use paper::Refusal;
+use std::io;
+
+// The numbers of a head, after its name, which is as long as two.
+#[derive(Clone, Copy, Debug, PartialEq, Eq)]
+pub(crate) enum Field {
+    Kind = 2,
+    Follow,
+    Lent,
+    First,
+    A,
+    B,
+    C,
+    D,
+    E,
+    F,
+    G,
+    H,
+    I,
+    J,
 }
 
-pub(crate) fn half(head: &[u8], i: usize) -> u32 {
-    (octets::number(head, i) % 4294967296) as u32
+#[derive(Clone, Copy)]
+pub(crate) struct Case<'a> {
+    pub(crate) rt: &'a HostRuntime,
+    pub(crate) head: &'a [u8; 128],
 }
 
-// Whether every byte is to be shown.
-pub(crate) fn asked(head: &[u8], i: usize) -> bool {
-    octets::number(head, i) == 1
-}
-
-// A length, no more than the list has.
-pub(crate) fn within(head: &[u8], i: usize, list: &[u8]) -> usize
-    ensures { IsPrefixLen result list.now }
-{
-    io::count(half(head, i) as isize, list)
-}
-
-// n, no more than the list has.
-pub(crate) fn up_to(n: usize, list: &[u64]) -> usize
-    ensures { IsPrefixLen result list.now }
-{
-    if n < list.len() {
-        return n;
+impl<'a> Case<'a> {
+    pub(crate) fn number(&self, field: Field) -> u64 {
+        let head = self.head;
+        octets::number(head, field as usize)
     }
-    list.len()
+
+    pub(crate) fn byte(&self, field: Field) -> u8 {
+        (self.number(field) % 256) as u8
+    }
+
+    pub(crate) fn half(&self, field: Field) -> u32 {
+        (self.number(field) % 4294967296) as u32
+    }
+
+    // A length, no more than there is.
+    pub(crate) fn up_to(&self, field: Field, most: usize) -> usize
+        ensures { result ≤ most }
+    {
+        most.min(self.half(field) as usize)
+    }
+
+    // The front of a list, of a length that a field says.
+    pub(crate) fn front<'b, T>(&self, field: Field, list: &'b mut [T]) -> &'b mut [T] {
+        let n = self.up_to(field, list.len());
+        &mut list[..n]
+    }
+
+    // How lists are to be shown.
+    pub(crate) fn manner(&self, field: Field) -> Manner {
+        if self.number(field) == 1 {
+            Manner::Whole
+        } else {
+            Manner::InShort
+        }
+    }
+
+    // What a call answered.
+    pub(crate) fn answered<T: Shown>(&self, r: Result<T, Refusal>) -> io::Result<()> {
+        match r {
+            Ok(x) => x.show(self.rt),
+            Err(e) => print!(self.rt; "refused {e} "),
+        }
+    }
+
+    // What is lent, after the call.
+    pub(crate) fn left<T: Item>(&self, manner: Manner, list: &[T]) -> io::Result<()> {
+        match manner {
+            Manner::InShort if T::LONG <= list.len() => say::sum(list).show(self.rt),
+            _ => T::digits(self.rt, list),
+        }
+    }
 }

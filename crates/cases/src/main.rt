@@ -38,86 +38,77 @@ mod say;
 mod tallies;
 mod wires;
 
+use fields::{Case, Field};
 use input::Input;
 use std::io::{Print, Result};
 
-fn on_lists<'a>(
-    rt: &HostRuntime,
-    kind: u64,
-    head: &[u8],
-    first: &'a [u8],
-    second: &'a [u8],
-) -> Result<()> {
+// By the kind's number: an enum would name the sixteen kinds twice more, and the list above has them.
+fn on_lists(case: &Case, kind: u64, first: &[u8], second: &[u8]) -> Result<()> {
     match kind {
-        1 => blocks::make(rt, head),
-        2 => blocks::read(rt, head),
-        3 => copies::make(rt, head, first),
-        4 => copies::read(rt, head, first, second),
-        5 => wires::all(rt, head),
-        6 => patterns::start(rt, head),
-        8 => patterns::feed(rt, head, first),
-        9 => tallies::add(rt, head, first, second),
-        11 => captures::write(rt, head, first, second),
-        12 => captures::read(rt, head, first),
-        14 => pairs::both(rt, head),
-        15 => pairs::make(rt, head, first),
-        16 => pairs::read(rt, head, first),
-        _ => tallies::count(rt, head, first),
+        1 => blocks::make(case),
+        2 => blocks::read(case),
+        3 => copies::make(case, first),
+        4 => copies::read(case, first, second),
+        5 => wires::all(case),
+        6 => patterns::start(case),
+        8 => patterns::feed(case, first),
+        9 => tallies::add(case, first, second),
+        11 => captures::write(case, first, second),
+        12 => captures::read(case, first),
+        14 => pairs::both(case),
+        15 => pairs::make(case, first),
+        16 => pairs::read(case, first),
+        _ => tallies::count(case, first),
     }
-}
-
-fn answer(rt: &HostRuntime, head: &[u8], list: &[u8]) -> Result<()> {
-    let m = fields::within(head, 5, list);
-    on_lists(rt, octets::number(head, 2), head, &list[..m], &list[m..])
 }
 
 // The two kinds that write to what they are lent, or another.
-fn lent(rt: &HostRuntime, kind: u64, head: &[u8], list: &mut [u8]) -> Result<()> {
-    match kind {
-        7 => patterns::fill(rt, head, list),
-        13 => salvages::salvage(rt, head, list),
-        _ => answer(rt, head, list),
-    }
-}
-
-fn named(rt: &HostRuntime, head: &[u8], list: &mut [u8]) -> Result<()> {
-    let name = io::count(16, head);
-    rt.write_all(&head[..name])?;
-    lent(rt, octets::number(head, 2), head, list)
-}
-
-// Whether a head was read whole.
-fn whole(rt: &HostRuntime, i: Input) -> Result<bool> {
-    match i {
-        Input::Full => Ok(true),
-        Input::Last(_) => Ok(false),
-        Input::Failed => {
-            eprintln!(rt; "cases: standard input could not be read")?;
-            Ok(false)
+fn answer(case: &Case, list: &mut [u8]) -> Result<()> {
+    match case.number(Field::Kind) {
+        7 => patterns::fill(case, list),
+        13 => salvages::salvage(case, list),
+        kind => {
+            let (first, second) = list.split_at(case.up_to(Field::First, list.len()));
+            on_lists(case, kind, first, second)
         }
     }
 }
 
-// One case, answered; whether there may be another.
-fn turn(rt: &HostRuntime, buffer: &mut [u8]) -> Result<bool> {
+// The line of a case.
+fn line(case: &Case, buffer: &mut [u8]) -> Result<()> {
+    let Case { rt, head } = *case;
+    // After a read that fails the buffer holds what came before.
+    let _ = input::load(&mut rt.stdin(), case.front(Field::Follow, buffer));
+    rt.write_all(&head[..16])?;
+    answer(case, case.front(Field::Lent, buffer))?;
+    println!(rt;)
+}
+
+// The head of the next case, if it is all there.
+fn next_head(rt: &HostRuntime) -> Result<Option<[u8; 128]>> {
     let mut head = [0u8; 128];
-    if !whole(rt, input::load(&mut rt.stdin(), &mut head))? {
-        return Ok(false);
+    match input::load(&mut rt.stdin(), &mut head) {
+        Ok(Input::Full) => Ok(Some(head)),
+        Ok(Input::Last(_)) => Ok(None),
+        Err(_) => {
+            eprintln!(rt; "cases: standard input could not be read")?;
+            Ok(None)
+        }
     }
-    let k = fields::within(&head, 3, buffer);
-    input::load(&mut rt.stdin(), &mut buffer[..k]);
-    let n = fields::within(&head, 4, buffer);
-    named(rt, &head, &mut buffer[..n])?;
-    println!(rt;)?;
-    Ok(true)
 }
 
 fn main(rt: HostRuntime) -> Result<()> {
     let mut buffer = [0u8; 65537];
+    // No input has so many heads.
     for _ in 0..1u64 << 41 {
-        if !turn(&rt, &mut buffer)? {
+        let Some(head) = next_head(&rt)? else {
             break;
-        }
+        };
+        let case = Case {
+            rt: &rt,
+            head: &head,
+        };
+        line(&case, &mut buffer)?;
     }
     Ok(())
 }

@@ -1,53 +1,71 @@
-// Numbers and bytes on standard output, a space after each.
-ghost use Rattle.std.specs.Prelude.{◌<◌, ◌≤◌, length, IfOk};
-
+// Answers and lists on standard output, a space after each number and each list.
 use std::io::{Print, Result};
 
-pub(crate) fn number(rt: &HostRuntime, n: u64) -> Result<()> {
-    print!(rt; "{n} ")
+// What a call hands out.
+pub(crate) trait Shown {
+    fn show(self, rt: &HostRuntime) -> Result<()>;
 }
 
-pub(crate) fn two(rt: &HostRuntime, a: u64, b: u64) -> Result<()> {
-    number(rt, a)?;
-    number(rt, b)
-}
-
-pub(crate) fn three(rt: &HostRuntime, a: u64, b: u64, c: u64) -> Result<()> {
-    number(rt, a)?;
-    number(rt, b)?;
-    number(rt, c)
-}
-
-pub(crate) fn refused(rt: &HostRuntime, n: u8) -> Result<()> {
-    print!(rt; "refused {n} ")
-}
-
-// Prints the next eight bytes, or the next one where there are fewer; answers how many.
-fn some(rt: &HostRuntime, s: &[u8]) -> Result<usize>
-    requires { 0 < length s.now }
-    ensures { IfOk result (λ n. (0 < n) × (n ≤ length s.now)) }
-{
-    if 8 <= s.len() {
-        let eight = octets::number(s, 0);
-        print!(rt; "{eight:016x}")?;
-        return Ok(8);
+pub(crate) fn numbers(rt: &HostRuntime, list: &[u64]) -> Result<()> {
+    for n in list {
+        print!(rt; "{n} ")?;
     }
-    let one = s[0];
-    print!(rt; "{one:02x}")?;
-    Ok(1)
+    Ok(())
 }
 
-// Two digits a byte.
-pub(crate) fn bytes(rt: &HostRuntime, s: &[u8]) -> Result<()> {
-    let mut at = 0;
-    while at < s.len() {
-        at += some(rt, &s[at..])?;
+// Of a call that hands out nothing.
+impl Shown for () {
+    fn show(self, rt: &HostRuntime) -> Result<()> {
+        numbers(rt, &[0])
     }
-    print!(rt; " ")
 }
 
-fn wide(byte: u8) -> u64 {
-    byte as u64
+impl Shown for u64 {
+    fn show(self, rt: &HostRuntime) -> Result<()> {
+        numbers(rt, &[self])
+    }
+}
+
+// What a list is made of: numbers, or bytes.
+pub(crate) trait Item: Copy + Into<u64> {
+    // ee in every byte: so a line shows what was left alone.
+    const UNTOUCHED: Self;
+
+    // From so many on a list is shown in short.
+    const LONG: usize;
+
+    fn digits(rt: &HostRuntime, list: &[Self]) -> Result<()>;
+}
+
+impl Item for u64 {
+    const UNTOUCHED: u64 = 0xeeee_eeee_eeee_eeee;
+
+    const LONG: usize = 0;
+
+    fn digits(rt: &HostRuntime, list: &[u64]) -> Result<()> {
+        for x in list {
+            print!(rt; "{x:016x}")?;
+        }
+        print!(rt; " ")
+    }
+}
+
+impl Item for u8 {
+    const UNTOUCHED: u8 = 0xee;
+
+    const LONG: usize = 201;
+
+    // Eight at a time, while there are as many.
+    fn digits(rt: &HostRuntime, list: &[u8]) -> Result<()> {
+        let (eights, rest) = list.as_chunks::<8>();
+        for eight in eights {
+            print!(rt; "{:016x}", u64::from_be_bytes(*eight))?;
+        }
+        for b in rest {
+            print!(rt; "{b:02x}")?;
+        }
+        print!(rt; " ")
+    }
 }
 
 // The sum of a list and of one number more; of two numbers below 2^32 each makes its own.
@@ -56,41 +74,15 @@ fn with(sum: u64, x: u64) -> u64 {
     (half * 16777619 + x % 4294967296) % 4294967296
 }
 
-// Up to 200 bytes, two digits each; else their sum, from their number on.
-pub(crate) fn list(rt: &HostRuntime, s: &[u8]) -> Result<()> {
-    if s.len() <= 200 {
-        return bytes(rt, s);
-    }
-    let mut sum = s.len() as u64;
-    for b in s {
-        sum = with(sum, wide(*b));
-    }
-    number(rt, sum)
+// The sum of a list, from its length on.
+pub(crate) fn sum<T: Item>(list: &[T]) -> u64 {
+    list.iter()
+        .fold(list.len() as u64, |sum, x| with(sum, (*x).into()))
 }
 
-// The sum of numbers, from their number on.
-pub(crate) fn numbers(rt: &HostRuntime, s: &[u64]) -> Result<()> {
-    let mut sum = s.len() as u64;
-    for x in s {
-        sum = with(sum, *x);
-    }
-    number(rt, sum)
-}
-
-// Sixteen digits a number.
-fn digits(rt: &HostRuntime, s: &[u64]) -> Result<()> {
-    for x in s {
-        let wide = *x;
-        print!(rt; "{wide:016x}")?;
-    }
-    print!(rt; " ")
-}
-
-// What is lent, after the call: all of it, or in short.
-pub(crate) fn left(rt: &HostRuntime, all: bool, s: &[u8]) -> Result<()> {
-    if all { bytes(rt, s) } else { list(rt, s) }
-}
-
-pub(crate) fn left_numbers(rt: &HostRuntime, all: bool, s: &[u64]) -> Result<()> {
-    if all { digits(rt, s) } else { numbers(rt, s) }
+// How a list is shown: in all its digits, or as its sum where it is long.
+#[derive(Clone, Copy, Debug, PartialEq, Eq)]
+pub(crate) enum Manner {
+    Whole,
+    InShort,
 }

@@ -1,30 +1,31 @@
 // Bus-invert's answers.
-use crate::{fields, say};
-use bus::{Bus, Driven, Received};
+use crate::fields::{Case, Field};
+use crate::say;
+use crate::say::Shown;
+use bus::Bus;
 use std::io::Result;
 
-fn driven(rt: &HostRuntime, r: Driven) -> Result<()> {
-    match r {
-        Driven::Now(b) => say::three(rt, b.width as u64, b.wires as u64, b.invert as u64),
-        Driven::Refused(n) => say::refused(rt, n),
-    }
-}
-
-fn received(rt: &HostRuntime, b: Bus) -> Result<()> {
-    match bus::receive(b.width, b.wires, b.invert) {
-        Received::Word(data) => say::number(rt, data as u64),
-        Received::Refused(n) => say::refused(rt, n),
+impl Shown for Bus {
+    fn show(self, rt: &HostRuntime) -> Result<()> {
+        say::numbers(
+            rt,
+            &[
+                u64::from(self.width),
+                u64::from(self.wires),
+                u64::from(self.invert),
+            ],
+        )
     }
 }
 
 // A fresh bus, what is sent from the state handed in, what is received of it.
-pub(crate) fn all(rt: &HostRuntime, head: &[u8]) -> Result<()> {
+pub(crate) fn all(case: &Case) -> Result<()> {
     let b = Bus {
-        width: fields::half(head, 6),
-        wires: fields::half(head, 7),
-        invert: fields::byte(head, 8),
+        width: case.half(Field::A),
+        wires: case.half(Field::B),
+        invert: case.byte(Field::C),
     };
-    driven(rt, Bus::fresh(b.width))?;
-    driven(rt, b.send(fields::half(head, 9)))?;
-    received(rt, b)
+    case.answered(Bus::fresh(b.width))?;
+    case.answered(b.send(case.half(Field::D)))?;
+    case.answered(bus::receive(b.width, b.wires, b.invert).map(u64::from))
 }

@@ -1,21 +1,17 @@
-// The calls that bench/ measures, exported to C on 64-bit numbers.
+// The calls that bench/ measures, exported to C on 64-bit numbers. An archive exports what its own crate defines: so each has the contract of
+// the call behind it once more.
 #![tactic(auto)]
 
 ghost use Rattle.std.specs.Prelude.{◌≡◌, leb, length};
 ghost use Rattle.paper.specs.Answer.{Answer, number_of, numbered};
 ghost use Rattle.laws.specs.Lent.{◌to◌, ◌over◌};
 ghost use Rattle.filing.specs.File.{most_frames};
-ghost use Rattle.capture.specs.Answers.{filed, answer};
 ghost use Rattle.capture.specs.Calls.{Writes, FileCall};
-ghost use Rattle.host.specs.Entries.{returned};
 ghost use Rattle.host.specs.Captures.{Returned};
 ghost use Rattle.maker.specs.Lists.{MakesList};
 ghost use Rattle.reader.specs.Lists.{ReadsList, ReadsPads, VerdictOf};
-ghost use Rattle.salvage.specs.Calls.{answer as salvage·answer, Salvages};
+ghost use Rattle.salvage.specs.Calls.{Salvages};
 ghost use Rattle.salvage.specs.declared.Counts.{Counts};
-
-use capture::{Filed, Labelled};
-use salvage::Salvaged;
 
 #[unsafe(no_mangle)]
 pub extern "C" fn bench_read(frame: u64) -> u8
@@ -58,15 +54,6 @@ pub extern "C" fn bench_read_list_pads(
     paper::number_of(reader::read_list_pads(frames, data, verdicts, pads, checks))
 }
 
-fn length_of(f: Filed) -> u64
-    ensures { result ≡ returned (filed f) }
-{
-    match f {
-        Filed::Length(n) => n as u64,
-        Filed::Refused(n) => n as u64,
-    }
-}
-
 #[unsafe(no_mangle)]
 pub extern "C" fn bench_capture_write(
     lane: u32,
@@ -76,16 +63,7 @@ pub extern "C" fn bench_capture_write(
 ) -> u64
     ensures { Returned (Writes lane frames.now notes.now (file.entry to file.exit)) result }
 {
-    length_of(capture::write(lane, frames, notes, file))
-}
-
-fn number_of(r: Labelled) -> u8
-    ensures { result ≡ number_of (answer r) }
-{
-    match r {
-        Labelled::Found(_) => 0,
-        Labelled::Refused(n) => n,
-    }
+    host::length_of(capture::write(lane, frames, notes, file))
 }
 
 #[unsafe(no_mangle)]
@@ -94,16 +72,7 @@ pub extern "C" fn bench_capture_read(file: &[u8], frames: &mut [u64]) -> u8
         (λ c u. frames.new ≡ c.frames over frames.old) (frames.new ≡ frames.old)
         file.now (numbered result) }
 {
-    number_of(capture::read(file, frames))
-}
-
-fn salvage_number(r: Salvaged) -> u8
-    ensures { result ≡ number_of (salvage·answer r) }
-{
-    match r {
-        Salvaged::Done(_) => 0,
-        Salvaged::Refused(n) => n,
-    }
+    paper::number_of(capture::read(file, frames))
 }
 
 #[unsafe(no_mangle)]
@@ -116,5 +85,5 @@ pub extern "C" fn bench_salvage(
     ensures { (a : Answer Counts) × (result ≡ number_of a) × Salvages (file.entry to file.exit) (altered.entry to altered.exit)
         (places.entry to places.exit) (refused.entry to refused.exit) a }
 {
-    salvage_number(salvage::salvage(file, altered, places, refused))
+    paper::number_of(salvage::salvage(file, altered, places, refused))
 }

@@ -12,6 +12,7 @@ use borrow.Author.Tests.{lt-ltb}
 use lib.Bits.{bit_xor}
 use lib.ListN.{length, drop, set, length-drop}
 use lib.Seq.{drop-drop}
+use Rattle.std.specs.Prelude.{Ok}
 use Rattle.radix.specs.Octets.{eight, in_bytes, stored}
 use Rattle.bch.proofs.Ones.{ups, differ_ups, Rising, ups_rising}
 use Rattle.frame.specs.Word.{word_of}
@@ -20,7 +21,6 @@ use Rattle.decoding.specs.Reads.{Reads}
 use Rattle.reader.specs.declared.Flips.{Flips}
 use Rattle.reader.specs.declared.Flips.TheVariants.{Nowhere, One, Two}
 use Rattle.reader.specs.declared.Word.{Word}
-use Rattle.reader.specs.declared.Reading.TheVariants.{Lawful}
 use Rattle.host.specs.Entries.{Small}
 
 five_stores : (d : ℕ) (r : List ℕ) → 5 ≤ length r → (n a b p k : ℕ)
@@ -46,7 +46,7 @@ rising Nowhere r = tt
 rising (One a) r = omega (arith, r.1)
 rising (Two a b) r = (omega (arith, r.1), omega (arith, r.2.1))
 
-pub small : (f : ℕ) (w : Word) → Reads f (answer (Lawful w)) → Small w.flips
+pub small : (f : ℕ) (w : Word) → Reads f (answer (Ok w)) → Small w.flips
 small f w r =
     let e : ups 63 (bit_xor r.sent (word_of f)) ≡ places_of w.flips = sym (differ_ups 63 r.sent (word_of f)) ∙ r.flips in
     rising w.flips (subst (Rising 0) e (ups_rising 63 (bit_xor r.sent (word_of f)) (omega arith)))

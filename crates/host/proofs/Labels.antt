@@ -1,60 +1,47 @@
 -- The answer of the entries on capture files: twelve bytes, and the number of a refusal.
 -- ┌───────────────┬────────────────────────────────────────────────────────────────┐
--- │ two_puts      │ lane and count, one behind the other                           │
+-- │ two_copies    │ lane and count, one behind the other                           │
 -- │ numbered_file │ a refusal of a file is never 0, so that its number says it:    │
 -- │               │ what a call owes, said of the number that C gets               │
 -- │ label_told,   │ what the entries owe, from what `head` and `read_bytes` do     │
 -- │ file_told     │                                                                │
 -- └───────────────┴────────────────────────────────────────────────────────────────┘
 use mathlib.Core.Path.{◌≡◌, refl, sym, ap, ap₂, ◌∙◌, subst}
-use mathlib.Core.Bool.{Bool, true, false, cond, ◌&&◌}
-use mathlib.Core.List.{List, ◌++◌, append_assoc}
-use Prim.Native.Nat.{ℕ, ◌+◌, ◌^◌, ◌<◌, ◌≤◌}
+use mathlib.Core.Bool.{Bool, true, false, ◌&&◌}
+use mathlib.Core.List.{List, [], ◌∷◌, ◌++◌, append_assoc}
+use Prim.Native.Nat.{ℕ, ◌/◌, ◌%◌, ◌^◌, ◌≤◌}
+use native.Mathlib.Nat.{div-one}
 use native.Mathlib.Omega.{arith}
-use borrow.Author.Tests.{lt-ltb, le-leb}
-use lib.ListN.{length, drop, length-append, length-drop}
+use Rattle.std.specs.Int.{w32, w64, to_be_bytes}
+use lib.ListN.{length, take, drop, length-append}
 use lib.Seq.{take_at, drop_at, drop-drop}
-use Rattle.paper.specs.Numbers.{outside, unfit, unless}
-use Rattle.paper.specs.Answer.{Answer, gives, refused, owed, number_of, numbered}
-use Rattle.laws.specs.Lent.{Left, ◌over◌}
+use Rattle.paper.specs.Answer.{Answer, gives, refused, number_of, numbered}
+use Rattle.laws.specs.Lent.{◌over◌}
 use Rattle.laws.proofs.Writing.{over_fits}
 use Rattle.radix.specs.Octets.{in_bytes, eight, bytes_of}
 use Rattle.radix.proofs.Digits.{length_in}
 use Rattle.radix.proofs.Stored.{length_eight}
-use Rattle.octets.specs.Calls.{there, inside, placed, Puts}
+use Rattle.octets.proofs.Eights.{to_eight}
 use Rattle.filing.specs.Refused.{Refuses, over_size, without_tag, disagree, too_many}
 use Rattle.filing.specs.File.{Capture}
 use Rattle.capture.specs.Calls.{label_of, RefusedFor, FileCall, Heads, fits_bytes, ReadsBytes}
 use Rattle.capture.specs.declared.Label.{Label}
 use Rattle.host.specs.Captures.{label_bytes, labelled, label_fits, Labels, ReadsLabel, ReadsFile}
 
-put_done : (o₀ o : List ℕ) (at n x : ℕ) (a : Answer Unit) → Puts o₀ at n x a o → there at n (length o₀) ≡ true → inside n x ≡ true
-    → o ≡ placed o₀ at n x
-put_done o₀ o at n x a p t i =
-    let e = p.answer ∙ ap₂ (λ (b c : Bool). owed (cond b (unless outside c) unfit) tt) t i in
-    subst (λ (b : Answer Unit). Left b (o ≡ placed o₀ at n x) o₀ o) e p.bytes
+four : (x : ℕ) → to_be_bytes w32 x ≡ in_bytes 4 x
+unfolding in_bytes
+four x = ap (λ (y : ℕ). x / 256 ^ 3 % 256 ∷ x / 256 ^ 2 % 256 ∷ x / 256 % 256 ∷ y % 256 ∷ []) (sym (div-one x))
 
-two_places : (o : List ℕ) (l n : ℕ) → 12 ≤ length o → placed (placed o 0 4 l) 4 8 n ≡ label_bytes l n over o
-unfolding placed eight
-two_places o l n h =
-    let p : List ℕ = in_bytes 4 l ++ drop 4 o in
+pub two_copies : (o p q : List ℕ) (l n : ℕ) → 12 ≤ length o → p ≡ to_be_bytes w32 l → q ≡ to_be_bytes w64 n
+    → take 4 (p ++ drop 4 o) ++ (q ++ drop 8 (drop 4 (p ++ drop 4 o))) ≡ label_bytes l n over o
+unfolding eight
+two_copies o p q l n h e f =
     let w : length (label_bytes l n) ≡ 12 = omega (arith, length-append (in_bytes 4 l) (eight n), length_in 4 l, length_eight n) in
-    ap₂ (λ (x y : List ℕ). x ++ (in_bytes 8 n ++ y)) (take_at (in_bytes 4 l) (drop 4 o) 4 (length_in 4 l))
-    (sym (drop-drop 8 4 p) ∙ ap (drop 8) (drop_at (in_bytes 4 l) (drop 4 o) 4 (length_in 4 l)) ∙ drop-drop 8 4 o)
+    ap₂ (λ (x y : List ℕ). take 4 (x ++ drop 4 o) ++ (y ++ drop 8 (drop 4 (x ++ drop 4 o)))) (e ∙ four l) (f ∙ to_eight n)
+    ∙ ap₂ (λ (x y : List ℕ). x ++ (in_bytes 8 n ++ y)) (take_at (in_bytes 4 l) (drop 4 o) 4 (length_in 4 l))
+    (ap (drop 8) (drop_at (in_bytes 4 l) (drop 4 o) 4 (length_in 4 l)) ∙ drop-drop 8 4 o)
     ∙ sym (append_assoc (in_bytes 4 l) (in_bytes 8 n) (drop 12 o))
     ∙ sym (over_fits (label_bytes l n) o (omega arith) ∙ ap (λ (k : ℕ). label_bytes l n ++ drop k o) w)
-
-pub two_puts : (o p q : List ℕ) (l n : ℕ) (a b : Answer Unit) → 12 ≤ length o → l < 2 ^ 32 → n < 2 ^ 64 → Puts o 0 4 l a p → Puts p 4 8 n b q
-    → q ≡ label_bytes l n over o
-unfolding placed
-two_puts o p q l n a b h i j u v =
-    let e : p ≡ placed o 0 4 l = put_done o p 0 4 l a u (le-leb 4 (length o) (omega arith)) (lt-ltb l (256 ^ 4) (omega arith)) in
-    let s : length p ≡ length o =
-    ap length e ∙ length-append (in_bytes 4 l) (drop 4 o) ∙ (let k = length_in 4 l in let m = length-drop 4 o in
-    let z : length (in_bytes 4 l) + length (drop 4 o) ≡ length o = omega arith in z) in
-    put_done p q 4 8 n b v (le-leb 12 (length p) (omega arith)) (lt-ltb n (256 ^ 8) (omega arith))
-    ∙ ap (λ (r : List ℕ). placed r 4 8 n) e
-    ∙ two_places o l n h
 
 file_number : (bs : List ℕ) (n : ℕ) → Refuses bs n → numbered n ≡ refused n
 file_number bs n (over_size e l) = subst (λ (m : ℕ). numbered m ≡ refused m) (sym e) refl

@@ -2,11 +2,9 @@
 #![tactic(auto)]
 
 ghost use Rattle.std.specs.Prelude.{◌≡◌, ◌≤◌, length, get_or};
-ghost use Rattle.paper.specs.Answer.{numbered};
+ghost use Rattle.paper.specs.Answer.{code, answer, number_of, numbered};
 ghost use Rattle.laws.specs.Lent.{◌to◌};
-ghost use Rattle.decoding.specs.Found.{flag};
 ghost use Rattle.reader.specs.Answers.{places_of, found};
-ghost use Rattle.maker.specs.Answers.{answer};
 ghost use Rattle.maker.specs.Lists.{MakesBytes};
 ghost use Rattle.reader.specs.Lists.{ReadsBytes};
 ghost use Rattle.pair.specs.Calls.{MakesPairsBytes, ReadsPairsBytes};
@@ -14,12 +12,9 @@ ghost use Rattle.host.specs.Entries.{returned, MakesCode, Small, answer_bytes, n
 
 mod captures;
 
-pub use captures::{lks_capture_head, lks_capture_read, lks_capture_write};
-use maker::Making;
-use reader::{Flips, Reading, Word};
-
-// 12 as C gets it.
-const UNFIT: u64 = paper::UNFIT as u64;
+pub use captures::{length_of, lks_capture_head, lks_capture_read, lks_capture_write};
+use paper::Refusal;
+use reader::{Flips, Word};
 
 // The bytes of an answer.
 const ANSWER_BYTES: usize = 13;
@@ -27,70 +22,50 @@ const ANSWER_BYTES: usize = 13;
 // In a byte for a place where there is none.
 const NO_PLACE: u8 = 255;
 
-fn wide(n: u8) -> u64
-    ensures { result ≡ n }
+// What C gets of a refusal.
+fn refused(r: Refusal) -> u64
+    ensures { result ≡ code r }
 {
-    n as u64
+    u64::from(r.code())
 }
 
-fn returned(m: Making) -> u64
-    ensures { result ≡ returned (answer m) }
+// What C gets of a call that answers a number.
+fn returned(r: Result<u64, Refusal>) -> u64
+    ensures { result ≡ returned (answer r) }
 {
-    match m {
-        Making::Frame(f) => f,
-        Making::Refused(n) => wide(n),
-    }
+    r.unwrap_or_else(refused)
 }
 
-fn count_of(p: Flips) -> u8
-    ensures { result ≡ length (places_of p) }
+// What C gets of a call that leaves its answer in what it was lent.
+fn number_of(r: Result<(), Refusal>) -> u64
+    ensures { result ≡ number_of (answer r) }
 {
-    match p {
-        Flips::Nowhere => 0,
-        Flips::One(_) => 1,
-        Flips::Two(_, _) => 2,
-    }
+    u64::from(paper::number_of(r))
 }
 
-fn first_of(p: Flips) -> u8
+// The bytes of both places.
+fn places(p: Flips) -> (u8, u8)
     requires { Small p }
-    ensures { result ≡ get_or (places_of p) 0 no_place }
+    ensures first { result.0 ≡ get_or (places_of p) 0 no_place }
+    ensures second { result.1 ≡ get_or (places_of p) 1 no_place }
 {
     match p {
-        Flips::Nowhere => NO_PLACE,
-        Flips::One(a) => a as u8,
-        Flips::Two(a, _) => a as u8,
+        Flips::Nowhere => (NO_PLACE, NO_PLACE),
+        Flips::One(a) => (a as u8, NO_PLACE),
+        Flips::Two(a, b) => (a as u8, b as u8),
     }
-}
-
-fn second_of(p: Flips) -> u8
-    requires { Small p }
-    ensures { result ≡ get_or (places_of p) 1 no_place }
-{
-    match p {
-        Flips::Nowhere => NO_PLACE,
-        Flips::One(_) => NO_PLACE,
-        Flips::Two(_, b) => b as u8,
-    }
-}
-
-fn flag_of(wrong: bool) -> u8
-    ensures { result ≡ flag wrong }
-{
-    if wrong { 1 } else { 0 }
 }
 
 // A reading in the thirteen bytes of the answer.
+#[tactic(auto, using(crate::proofs::Buffer::thirteen))]
 fn lay_out(answer: &mut [u8], w: Word)
     requires { (answer_bytes ≤ length answer.old) × Small w.flips }
     ensures { answer.new ≡ laid_out (found w) answer.old }
 {
-    let flips = w.flips;
     octets::store(answer, 0, w.data);
-    answer[8] = count_of(flips);
-    answer[9] = first_of(flips);
-    answer[10] = second_of(flips);
-    answer[11] = flag_of(w.pad_wrong);
+    answer[8] = w.flips.count();
+    (answer[9], answer[10]) = places(w.flips);
+    answer[11] = u8::from(w.pad_wrong);
     answer[12] = w.check_flips;
 }
 
@@ -101,19 +76,20 @@ pub extern "C" fn lks_frame_make(data: u64) -> u64
     returned(maker::make(data))
 }
 
+#[tactic(auto, using(crate::proofs::Buffer::small))]
 #[unsafe(no_mangle)]
 pub extern "C" fn lks_frame_read(frame: u64, answer: &mut [u8]) -> u64
     ensures { ReadsOut frame (answer.entry to answer.exit) result }
 {
     if answer.len() < ANSWER_BYTES {
-        return UNFIT;
+        return refused(Refusal::Unfit);
     }
     match reader::read(frame) {
-        Reading::Lawful(w) => {
+        Ok(w) => {
             lay_out(answer, w);
             0
         }
-        Reading::Refused(n) => wide(n),
+        Err(r) => refused(r),
     }
 }
 
@@ -121,7 +97,7 @@ pub extern "C" fn lks_frame_read(frame: u64, answer: &mut [u8]) -> u64
 pub extern "C" fn lks_frames_make(data: &[u8], frames: &mut [u8]) -> u64
     ensures { MakesBytes «data».now (frames.entry to frames.exit) (numbered result) }
 {
-    wide(paper::number_of(maker::make_bytes(data, frames)))
+    number_of(maker::make_bytes(data, frames))
 }
 
 #[unsafe(no_mangle)]
@@ -134,14 +110,14 @@ pub extern "C" fn lks_frames_read(
     ensures { ReadsBytes frames.now («data».entry to «data».exit) (verdicts.entry to verdicts.exit)
         (checks.entry to checks.exit) (numbered result) }
 {
-    wide(paper::number_of(reader::read_bytes(frames, data, verdicts, checks)))
+    number_of(reader::read_bytes(frames, data, verdicts, checks))
 }
 
 #[unsafe(no_mangle)]
 pub extern "C" fn lks_pairs_make(frames: &[u8], words: &mut [u8]) -> u64
     ensures { MakesPairsBytes frames.now (words.entry to words.exit) (numbered result) }
 {
-    wide(paper::number_of(pair::make_pairs_bytes(frames, words)))
+    number_of(pair::make_pairs_bytes(frames, words))
 }
 
 #[unsafe(no_mangle)]
@@ -149,5 +125,5 @@ pub extern "C" fn lks_pairs_read(words: &[u8], data: &mut [u8], verdicts: &mut [
     ensures { ReadsPairsBytes words.now («data».entry to «data».exit) (verdicts.entry to verdicts.exit)
         (numbered result) }
 {
-    wide(paper::number_of(pair::read_pairs_bytes(words, data, verdicts)))
+    number_of(pair::read_pairs_bytes(words, data, verdicts))
 }

@@ -1,4 +1,5 @@
 // The entries of the library host as C calls them: its archive. Each has the contract of the entry behind it, word for word.
+// C needs an archive, no crate can stand on one, and it exports what its own crate defines: so each entry stands in both.
 #![tactic(auto)]
 
 ghost use Rattle.paper.specs.Answer.{numbered};

@@ -4,7 +4,7 @@
 -- │ in_pieces       │                                                              │
 -- │ each_frame_once │                                                              │
 -- └─────────────────┴──────────────────────────────────────────────────────────────┘
-use mathlib.Core.Path.{◌≡◌, refl, sym, ap, ap₂, ◌∙◌, subst}
+use mathlib.Core.Path.{◌≡◌, sym, ap, ap₂, ◌∙◌, subst}
 use mathlib.Core.List.{List, ◌++◌, append-nil}
 use mathlib.Core.Logic.{inl, inr}
 use Prim.Native.Nat.{ℕ, ◌%◌}
@@ -12,7 +12,7 @@ use native.Mathlib.Omega.{arith}
 use lib.ListN.{length, length-append}
 use Rattle.paper.specs.Numbers.{unfit}
 use Rattle.paper.specs.Answer.{gives, owed}
-use Rattle.paper.proofs.Answer.{either, known_by, given, never_both}
+use Rattle.paper.proofs.Answer.{answer_one, given, never_both}
 use Rattle.laws.specs.Bits.{joining}
 use Rattle.tally.specs.Told.{Told}
 use Rattle.tally.specs.Ranges.{frames_in}
@@ -22,20 +22,10 @@ use Rattle.tally.specs.Calls.{refusal}
 use Rattle.tally.specs.declared.Tally.{Tally}
 use Rattle.tally.proofs.Steps as tally
 use Rattle.lane.specs.Seen.{Seen}
-use Rattle.lane.specs.Answers.{answer}
 use Rattle.lane.specs.Calls.{totals_of, CountsPiece}
 use Rattle.lane.specs.Claims.{OneCount, Pieces, last, more, InPieces, EachFrameOnce}
 use Rattle.lane.specs.declared.Totals.{Totals}
-use Rattle.lane.specs.declared.Counted.{Counted}
-use Rattle.lane.specs.declared.Counted.TheVariants.{Next, Refused}
 use Rattle.lane.proofs.Frames.{one_seen, seen_is_known, as_many, seen_join}
-
-answer_one : (r s : Counted) → answer r ≡ answer s → r ≡ s
-answer_one = known_by answer (either Next Refused) back
-  where
-    back : (r : Counted) → either Next Refused (answer r) ≡ r
-    back (Next a) = refl
-    back (Refused n) = refl
 
 pub one_count : OneCount
 one_count t bs r s o (inl p) (inl q) = answer_one r s (p.1 ∙ sym q.1)

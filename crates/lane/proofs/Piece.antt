@@ -2,10 +2,10 @@
 -- ┌───────────────┬────────────────────────────────────────────────────────────────┐
 -- │ front         │ what is written over a front stands there                      │
 -- │ told_answers  │ three lists taken of answers tell what each answer tells       │
+-- │ totalled      │ the count's answer to the tally's, with so many bytes left     │
 -- │ seen_in       │ outputs that show the frames' answers show what is seen        │
 -- │ alike         │ and their fronts are of one length                             │
 -- │ counts_answer │ the answer to the tally's answer is the count's                │
--- │ stays_in      │ a tally that was added to is in its range                      │
 -- └───────────────┴────────────────────────────────────────────────────────────────┘
 use mathlib.Core.Path.{◌≡◌, refl, sym, ap, ◌∙◌}
 use mathlib.Core.List.{List, [], ◌∷◌, map}
@@ -15,24 +15,21 @@ use native.Mathlib.Omega.{arith}
 use borrow.Author.Tests.{eq-eqb}
 use lib.ListN.{length, take, drop, length-map}
 use lib.Seq.{take_at}
-use Rattle.paper.specs.Answer.{Answer, owed}
-use Rattle.laws.specs.Lent.{Lent, ◌over◌}
+use Rattle.paper.specs.Answer.{Answer, gives, refused, owed}
+use Rattle.laws.specs.Lent.{◌over◌}
 use Rattle.laws.proofs.Writing.{over_fits, each_length}
 use Rattle.radix.proofs.Joined.{numbers_len}
 use Rattle.decoding.specs.Found.{Found}
 use Rattle.reader.specs.Answers.{verdict, pad_in, checks_in}
 use Rattle.tally.specs.Told.{Told, told}
 use Rattle.tally.specs.Fold.{after}
-use Rattle.tally.specs.Answers.{answer as added}
 use Rattle.tally.specs.Calls.{refusal, Adds}
 use Rattle.tally.specs.Parts.{Alike}
 use Rattle.tally.specs.declared.Tally.{Tally}
-use Rattle.tally.specs.declared.Added.{Added}
-use Rattle.tally.specs.declared.Added.TheVariants.{Next, Refused}
-use Rattle.tally.proofs.Answers.{stays_in_range}
 use Rattle.lane.specs.Seen.{telling, Seen}
 use Rattle.lane.specs.Calls.{totals_of, CountsPiece}
-use Rattle.lane.specs.Parts.{Room, Sees, totalled, StaysIn}
+use Rattle.lane.specs.Parts.{Room, Sees}
+use Rattle.lane.specs.declared.Sights.{Sights}
 use Rattle.lane.specs.declared.Totals.{Totals}
 
 front : (ys out : List ℕ) (n : ℕ) → length ys ≡ n → n ≤ length out → take n (ys over out) ≡ ys
@@ -43,56 +40,55 @@ unfolding told
 told_answers [] = refl
 told_answers (r ∷ rs) = ap (λ (l : List Told). telling r ∷ l) (told_answers rs)
 
+abbrev pub totalled : ℕ → Answer Tally → Answer Totals
+totalled left (gives t) = gives (totals_of t left)
+totalled left (refused n) = refused n
+
 -- totals of what is owed are owed
 totalled_owed : (n left : ℕ) (t : Tally) → totalled left (owed n t) ≡ owed n (totals_of t left)
 totalled_owed zero left t = refl
 totalled_owed (suc n) left t = refl
 
-module _ (bs : List ℕ) (v p k : Lent) (h : Room (length bs / 8) v.was p.was k.was) (w : Sees bs v p k) where
-  abbrev first : Lent → List ℕ
-  first o = take (length bs / 8) o.is
+module _ (bs : List ℕ) (s u : Sights) (h : Room (length bs / 8) s) (w : Sees bs s u) where
+  abbrev first : List ℕ → List ℕ
+  first o = take (length bs / 8) o
 
-  shows : (g : Answer Found → ℕ) (o : Lent) → length bs / 8 ≤ length o.was → o.is ≡ map g w.ys over o.was
-      → first o ≡ map g w.ys
-  shows g o l e =
+  shows : (g : Answer Found → ℕ) (o₀ o : List ℕ) → length bs / 8 ≤ length o₀ → o ≡ map g w.ys over o₀ → first o ≡ map g w.ys
+  shows g o₀ o l e =
       let n = length-map w.ys g ∙ each_length w.each ∙ numbers_len (length bs / 8) bs 0 in
-      ap (take (length bs / 8)) e ∙ front (map g w.ys) o.was (length bs / 8) n l
+      ap (take (length bs / 8)) e ∙ front (map g w.ys) o₀ (length bs / 8) n l
 
-  verdicts : first v ≡ map verdict w.ys
-  verdicts = shows verdict v h.0 w.all.0
+  verdicts : first u.verdicts ≡ map verdict w.ys
+  verdicts = shows verdict s.verdicts u.verdicts h.0 w.all.0
 
-  flags : first p ≡ map pad_in w.ys
-  flags = shows pad_in p h.1 w.all.1.0
+  flags : first u.pads ≡ map pad_in w.ys
+  flags = shows pad_in s.pads u.pads h.1 w.all.1.0
 
-  checks : first k ≡ map checks_in w.ys
-  checks = shows checks_in k h.2 w.all.1.1.0
+  checks : first u.checks ≡ map checks_in w.ys
+  checks = shows checks_in s.checks u.checks h.2 w.all.1.1.0
 
-  seen_in : Seen bs (told (first v) (first p) (first k))
+  seen_in : Seen bs (told (first u.verdicts) (first u.pads) (first u.checks))
   seen_in = record { answers = w.ys; each = w.each; tells = (λ i. told (verdicts i) (flags i) (checks i)) ∙ told_answers w.ys }
 
-  size : (g : Answer Found → ℕ) (o : Lent) → first o ≡ map g w.ys → length (first o) ≡ length w.ys
+  size : (g : Answer Found → ℕ) (o : List ℕ) → first o ≡ map g w.ys → length (first o) ≡ length w.ys
   size g o e = ap length e ∙ length-map w.ys g
 
-  alike : Alike (first v) (first p) (first k)
+  alike : Alike (first u.verdicts) (first u.pads) (first u.checks)
   alike =
-      let n = size verdict v verdicts in
-      (n ∙ sym (size pad_in p flags), n ∙ sym (size checks_in k checks))
+      let n = size verdict u.verdicts verdicts in
+      (n ∙ sym (size pad_in u.pads flags), n ∙ sym (size checks_in u.checks checks))
 
-  pub counts_answer : (t : Tally) (x : Answer Tally) (a : Answer Totals) → length bs ≤ 65536
-      → Adds t (first v) (first p) (first k) x → a ≡ totalled (length bs % 8) x → CountsPiece t bs a
+  pub counts_answer : (t : Tally) (x : Answer Tally) → length bs ≤ 65536
+      → Adds t (first u.verdicts) (first u.pads) (first u.checks) x → CountsPiece t bs (totalled (length bs % 8) x)
   unfolding Adds
-  counts_answer t x a l d e =
-      let xs = told (first v) (first p) (first k) in
+  counts_answer t x l d =
+      let xs = told (first u.verdicts) (first u.pads) (first u.checks) in
       let owes : x ≡ owed (refusal t xs) (after t xs) = simp (eq-eqb _ _ alike.0, eq-eqb _ _ alike.1) at d in
       inr (
         l,
         record {
           xs = xs;
           seen = seen_in;
-          owes = e ∙ ap (totalled (length bs % 8)) owes ∙ totalled_owed (refusal t xs) (length bs % 8) (after t xs);
+          owes = ap (totalled (length bs % 8)) owes ∙ totalled_owed (refusal t xs) (length bs % 8) (after t xs);
         },
       )
-
-pub stays_in : (t : Tally) (vs ps ks : List ℕ) (a : Added) → Adds t vs ps ks (added a) → StaysIn a
-stays_in t vs ps ks (Next u) d = stays_in_range t u vs ps ks d
-stays_in t vs ps ks (Refused n) d = tt

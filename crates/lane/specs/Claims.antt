@@ -11,18 +11,17 @@
 -- │ InPieces            │ counting in pieces is counting all at once               │
 -- │ EachFrameOnce       │ totals have each whole frame once, and the rest of bs    │
 -- └─────────────────────┴──────────────────────────────────────────────────────────┘
-use Rattle.std.specs.Prelude.{◌≡◌, true, List, [], ◌∷◌, ℕ, ◌/◌, ◌%◌, length}
-use Rattle.paper.specs.Answer.{gives}
+use Rattle.std.specs.Prelude.{◌≡◌, true, List, [], ◌∷◌, ℕ, ◌/◌, ◌%◌, length, Result}
+use Rattle.paper.specs.Answer.{gives, answer}
+use Rattle.paper.specs.declared.Refusal.{Refusal}
 use Rattle.laws.specs.Bits.{Octets, joining}
 use Rattle.tally.specs.Told.{Told}
 use Rattle.tally.specs.Ranges.{known}
 use Rattle.tally.specs.Counts.{fresh, counts}
 use Rattle.tally.specs.declared.Tally.{Tally}
 use Rattle.lane.specs.Seen.{Seen}
-use Rattle.lane.specs.Answers.{answer}
 use Rattle.lane.specs.Calls.{totals_of, CountsPiece}
 use Rattle.lane.specs.declared.Totals.{Totals}
-use Rattle.lane.specs.declared.Counted.{Counted}
 
 abbrev pub OneSeen : Type 0
 OneSeen = (bs : List ℕ) (xs ys : List Told) → Octets bs → Seen bs xs → Seen bs ys → xs ≡ ys
@@ -34,7 +33,7 @@ abbrev pub SeenIsKnown : Type 0
 SeenIsKnown = (bs : List ℕ) (xs : List Told) → Seen bs xs → known xs ≡ true
 
 abbrev pub OneCount : Type 0
-OneCount = (t : Tally) (bs : List ℕ) (r s : Counted) → Octets bs → CountsPiece t bs (answer r) → CountsPiece t bs (answer s) → r ≡ s
+OneCount = (t : Tally) (bs : List ℕ) (r s : Result Totals Refusal) → Octets bs → CountsPiece t bs (answer r) → CountsPiece t bs (answer s) → r ≡ s
 
 pub data Pieces : Tally → List (List ℕ) → Totals → Type 0 where
   last : {t : Tally} {u : Totals} {bs : List ℕ} → CountsPiece t bs (gives u) → Pieces t (bs ∷ []) u

@@ -1,6 +1,5 @@
 -- Laws of tests, of which an answer or a range is made.
 -- ┌───────────────┬─────────────────────────────────────────────────────────────┐
--- │ ltb_same      │ two tests of numbers that hold together                     │
 -- │ seven         │ the parts of a test that is seven                           │
 -- │ all_seven     │ a test that is seven, from its parts                        │
 -- │ not_both      │ of "not both", where both hold                              │
@@ -14,20 +13,11 @@
 -- └───────────────┴─────────────────────────────────────────────────────────────┘
 use mathlib.Core.Path.{◌≡◌, refl, sym, ap, ◌∙◌}
 use mathlib.Core.Bool.{Bool, true, false, cond, not, ◌&&◌, ◌||◌}
-use Prim.Native.Nat.{ℕ, zero, suc, ◌≤◌, ◌<◌}
-use lib.Dec.{ltb}
-use borrow.Author.Tests.{lt-ltb, le-ltb, ltb-true, ltb-false}
+use Prim.Native.Nat.{ℕ, zero, suc, ◌<◌}
 use native.Mathlib.Omega.{arith}
 use Rattle.paper.specs.Answer.{refused, owed}
 use Rattle.paper.proofs.Answer.{refused_one, never_both}
 use Rattle.laws.proofs.Truth.{is_true, two}
-
-pub ltb_same : (m n p q : ℕ) → (m < n → p < q) → (n ≤ m → q ≤ p) → ltb m n ≡ ltb p q
-ltb_same m n p q f g = go (ltb m n) refl
-  where
-    go : (t : Bool) → ltb m n ≡ t → ltb m n ≡ ltb p q
-    go true e = e ∙ sym (lt-ltb p q (f (ltb-true m n e)))
-    go false e = e ∙ sym (le-ltb p q (g (ltb-false m n e)))
 
 pub seven : (a b c d e f g : Bool) → a && b && c && d && e && f && g ≡ true
     → (a ≡ true) × (b ≡ true) × (c ≡ true) × (d ≡ true) × (e ≡ true) × (f ≡ true) × (g ≡ true)

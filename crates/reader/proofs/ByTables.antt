@@ -8,10 +8,11 @@
 -- │ by_the_tables   │ the claim of specs/Claims.antt by this name                  │
 -- │ shown_by_tables │ outputs that show frames read so show an answer to each      │
 -- │ shown_of_bytes  │ the same of the frames of bytes                              │
+-- │ read_in_form    │ and of frames and data in either form                        │
 -- └─────────────────┴──────────────────────────────────────────────────────────────┘
 use mathlib.Core.Path.{◌≡◌, refl, sym, ap, ap₂, ◌∙◌, subst}
 use mathlib.Core.Bool.{Bool, cond}
-use mathlib.Core.List.{List, [], map}
+use mathlib.Core.List.{List, [], ◌∷◌, map}
 use Prim.Native.Nat.{ℕ, zero, suc, ◌*◌, ◌/◌, ◌%◌, ◌^◌, ◌<◌, ◌≤◌}
 use native.Mathlib.Decide.{ℕ_discrete}
 use native.Mathlib.Nat.{div-one, mod-one, mod-eq_of_lt, mod-lt}
@@ -23,7 +24,7 @@ use lib.Dec.{eqb, lit<}
 use lib.ListN.{get_or}
 use Rattle.paper.specs.Answer.{Answer, gives, refused}
 use Rattle.laws.specs.Bits.{Octets}
-use Rattle.laws.specs.Lent.{Output, AllShow, Written}
+use Rattle.laws.specs.Lent.{Lent, Output, Each, AllShow, Written}
 use Rattle.laws.proofs.Writing.{each_made}
 use Rattle.radix.specs.Octets.{numbers_of}
 use Rattle.radix.proofs.Joined.{numbers_lt}
@@ -40,6 +41,9 @@ use Rattle.tables.proofs.Grown.{byte_turn}
 use Rattle.decoding.specs.Found.{Found, flag, check_flips}
 use Rattle.decoding.specs.Reads.{Reads}
 use Rattle.reader.specs.ByTables.{byte_of, sums_by, Mended, near_by, as_received, by_entry, mend_by, clean_sums, lawful_by, said_by, read_by}
+use Rattle.reader.specs.Answers.{verdict, data_in, pad_in, checks_in}
+use Rattle.reader.specs.Lists.{shown}
+use Rattle.reader.specs.Parts.{ShowsIn, ReadIn}
 use Rattle.reader.specs.Claims.{ByTheTables, Numbers}
 use Rattle.decoding.proofs.Demands.{mended, no_word_lem, a_word, run_broken_lem, received, received_broken}
 
@@ -155,15 +159,18 @@ by_the_tables c b m t f h = by (ℕ_discrete (sums (word_of f)) clean_sums)
     by (no n) = subst (Reads f) (as_mended c b f (sums (word_of f)) (mend_by c (sums (word_of f)) f) e n refl) (read_mended f h c m)
 
 module _ {c b : List ℕ} (m : MendTable c) (t : ByteSums b) where
+  each_by_tables : (fs : List ℕ) → Numbers fs → Each Reads fs (map (read_by c b) fs)
+  each_by_tables fs n = each_made (read_by c b) fs 0 (λ i h. by_the_tables c b m t (get_or fs i 0) (n i h))
+
   -- outputs that show the frames of a list, read by the tables, show an answer to each
   pub shown_by_tables : (fs : List ℕ) → Numbers fs → (os : List (Output (Answer Found))) → AllShow (map (read_by c b) fs) os → Written Reads fs os
-  shown_by_tables fs n os s =
-      record {
-        ys = map (read_by c b) fs;
-        each = each_made (read_by c b) fs 0 (λ i h. by_the_tables c b m t (get_or fs i 0) (n i h));
-        all = s;
-      }
+  shown_by_tables fs n os s = record { ys = map (read_by c b) fs; each = each_by_tables fs n; all = s }
 
   pub shown_of_bytes : (bs : List ℕ) → Octets bs → (os : List (Output (Answer Found)))
       → AllShow (map (read_by c b) (numbers_of bs)) os → Written Reads (numbers_of bs) os
   shown_of_bytes bs o os s = shown_by_tables (numbers_of bs) (numbers_lt bs o) os s
+
+  pub read_in_form : {A : Type 0} {laid : List ℕ → List A → List A} {fs : List ℕ} {d₀ d : List A} {v p k : Lent} → Numbers fs
+      → ShowsIn laid c b data_in fs d₀ d → AllShow (map (read_by c b) fs) (shown pad_in p ∷ shown verdict v ∷ shown checks_in k ∷ [])
+      → ReadIn laid fs d₀ d v p k
+  read_in_form {fs} n e s = record { ys = map (read_by c b) fs; each = each_by_tables fs n; «data» = e; others = s }

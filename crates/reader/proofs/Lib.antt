@@ -3,3 +3,4 @@ pub mod Entries
 pub mod Turns
 pub mod OneAnswer
 pub mod Shown
+pub mod Calls

@@ -8,7 +8,6 @@ ghost use Rattle.reader.specs.Answers.{places_of, answer, verdict};
 ghost use Rattle.decoding.specs.Reads.{Reads};
 ghost use Rattle.reader.specs.ByTables.{read_by};
 ghost use Rattle.reader.specs.Lists.{ReadsList, ReadsPads};
-ghost use Rattle.reader.specs.Parts.{Asks};
 
 use paper::Refusal;
 use tables::Tables;
@@ -89,16 +88,6 @@ pub fn verdict_of(r: Result<Word, Refusal>) -> u8
     }
 }
 
-// 12 where an output has no place for each frame.
-fn room(frames: &[u64], data: &[u64], verdicts: &[u8], checks: &[u8]) -> Result<(), Refusal>
-    ensures { Asks frames.now «data».now verdicts.now checks.now (listed result) }
-{
-    if data.len() < frames.len() || verdicts.len() < frames.len() || checks.len() < frames.len() {
-        return Err(Refusal::Unfit);
-    }
-    Ok(())
-}
-
 // The data, the verdict byte and the check flips of each frame of a list, at the front of three lent outputs.
 pub fn read_list(
     frames: &[u64],
@@ -109,10 +98,7 @@ pub fn read_list(
     ensures { ReadsList frames.now («data».entry to «data».exit) (verdicts.entry to verdicts.exit)
         (checks.entry to checks.exit) (listed result) }
 {
-    room(frames, data, verdicts, checks)?;
-    let mut no_pads = [0u8; 1];
-    lists::read_all(frames, data, verdicts, &mut no_pads, checks);
-    Ok(())
+    lists::read_in(frames, data, verdicts, &mut [], checks)
 }
 
 // The same, and the pad flag of each frame, 1 for wrong, at the front of a fourth lent output.
@@ -129,7 +115,5 @@ pub fn read_list_pads(
     if pads.len() < frames.len() {
         return Err(Refusal::Unfit);
     }
-    room(frames, data, verdicts, checks)?;
-    lists::read_all(frames, data, verdicts, pads, checks);
-    Ok(())
+    lists::read_in(frames, data, verdicts, pads, checks)
 }

@@ -1,51 +1,76 @@
-// The loop of the list forms, over outputs that are long enough.
-ghost use Rattle.std.specs.Prelude.{length};
-ghost use Rattle.laws.specs.Lent.{lent, Written};
+// The list forms' work, on numbers and on bytes.
+ghost use Rattle.paper.specs.Answer.{answer};
+ghost use Rattle.laws.specs.Lent.{lent};
 ghost use Rattle.reader.specs.Answers.{verdict, data_in, pad_in, checks_in};
-ghost use Rattle.decoding.specs.Reads.{Reads};
-ghost use Rattle.reader.specs.Lists.{all_shown};
-ghost use Rattle.reader.specs.Parts.{ShowsBy, Room};
+ghost use Rattle.reader.specs.Claims.{Numbers};
+ghost use Rattle.reader.specs.Parts.{ShowsBy, ShowsIn, Room, ReadIn, ReadsIn};
 
 use crate::sight::sight_by;
+use octets::Form;
+use paper::Refusal;
 use tables::Tables;
 
-// Each frame read into the outputs; a place that `pads` does not have is left out.
-fn read_each(
+// Each frame read into the outputs; a place that `pads` does not have is left out. A frame is put together a turn before it is read:
+// whole, not for its bytes alone.
+fn read_each<F: Form>(
     tables: &Tables,
-    frames: &[u64],
-    data: &mut [u64],
+    frames: &[F],
+    data: &mut [F],
     verdicts: &mut [u8],
     pads: &mut [u8],
     checks: &mut [u8],
 )
-    requires { Room (length frames.now) (length frames.now) «data».old verdicts.old checks.old }
-    ensures data { ShowsBy tables.now.corrections tables.now.sums data_in frames.now (lent «data») }
-    ensures verdicts { ShowsBy tables.now.corrections tables.now.sums verdict frames.now (lent verdicts) }
-    ensures pads { ShowsBy tables.now.corrections tables.now.sums pad_in frames.now (lent pads) }
-    ensures checks { ShowsBy tables.now.corrections tables.now.sums checks_in frames.now (lent checks) }
+    requires { Room (F.numbers frames.now) (F.numbers «data».old) verdicts.old checks.old }
+    ensures data { ShowsIn F.laid tables.now.corrections tables.now.sums data_in (F.numbers frames.now) «data».old «data».new }
+    ensures verdicts { ShowsBy tables.now.corrections tables.now.sums verdict (F.numbers frames.now) (lent verdicts) }
+    ensures pads { ShowsBy tables.now.corrections tables.now.sums pad_in (F.numbers frames.now) (lent pads) }
+    ensures checks { ShowsBy tables.now.corrections tables.now.sums checks_in (F.numbers frames.now) (lent checks) }
 {
-    for (i, frame) in frames.iter().enumerate() {
-        let s = sight_by(tables, *frame);
-        data[i] = s.data;
+    let mut frame = F::number(frames, 0);
+    for i in 0..F::count(frames) {
+        let s = sight_by(tables, frame);
+        F::store(data, i, s.data);
         verdicts[i] = s.verdict;
         checks[i] = s.checks;
         if i < pads.len() {
             pads[i] = s.pad;
         }
+        frame = F::number(frames, i + 1);
     }
 }
 
 // The tables are taken once.
-pub(crate) fn read_all(
-    frames: &[u64],
-    data: &mut [u64],
+fn read_all<F: Form>(
+    frames: &[F],
+    data: &mut [F],
     verdicts: &mut [u8],
     pads: &mut [u8],
     checks: &mut [u8],
 )
-    requires { Room (length frames.now) (length frames.now) «data».old verdicts.old checks.old }
-    ensures { Written Reads frames.now (all_shown (lent «data») (lent verdicts) (lent pads) (lent checks)) }
+    requires fits { Numbers (F.numbers frames.now) }
+    requires room { Room (F.numbers frames.now) (F.numbers «data».old) verdicts.old checks.old }
+    ensures { ReadIn F.laid (F.numbers frames.now) «data».old «data».new (lent verdicts) (lent pads) (lent checks) }
 {
     let tables = Tables::new();
     read_each(&tables, frames, data, verdicts, pads, checks);
+}
+
+// The data, the verdict byte, the pad flag and the check flips of each frame, at the front of outputs; 12 where one of them, `pads`
+// aside, has no place for each frame.
+pub(crate) fn read_in<F: Form>(
+    frames: &[F],
+    data: &mut [F],
+    verdicts: &mut [u8],
+    pads: &mut [u8],
+    checks: &mut [u8],
+) -> Result<(), Refusal>
+    requires { Numbers (F.numbers frames.now) }
+    ensures { ReadsIn F.numbers F.laid frames.now «data».old «data».new (lent verdicts) (lent pads) (lent checks) (answer result) }
+{
+    let n = F::count(frames);
+    if F::count(data) < n || verdicts.len() < n || checks.len() < n {
+        return Err(Refusal::Unfit);
+    }
+    read_all(frames, data, verdicts, pads, checks);
+    Ok(())
 }

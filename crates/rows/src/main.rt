@@ -1,58 +1,84 @@
 // Runs the rows of the paper's bench numbers, and the examples that users check by hand, through the calls.
 #![tactic(auto)]
 
-use maker::Making;
-use reader::{Flips, Reading, Word};
-use std::io;
+use paper::Refusal;
+use reader::{Flips, Word};
+use std::{fmt, io};
 
-fn refusal(rt: &HostRuntime, n: u8) -> io::Result<()> {
-    println!(rt; ": {n}")
+// A frame that was made.
+#[derive(Clone, Copy)]
+struct Frame(u64);
+
+impl fmt::Display for Frame {
+    fn fmt<W: fmt::Write>(&self, f: &mut fmt::Formatter<W>) -> fmt::Result {
+        write!(f, "frame {:016x}", self.0)
+    }
 }
 
-fn show_make(rt: &HostRuntime, data: u64) -> io::Result<()> {
+// The flips that were undone.
+#[derive(Clone, Copy)]
+struct Undone(Flips);
+
+impl fmt::Display for Undone {
+    fn fmt<W: fmt::Write>(&self, f: &mut fmt::Formatter<W>) -> fmt::Result {
+        match self.0 {
+            Flips::Nowhere => write!(f, "no flips"),
+            Flips::One(a) => write!(f, "flip at {a}"),
+            Flips::Two(a, b) => write!(f, "flips at {a} and {b}"),
+        }
+    }
+}
+
+// A word that was read.
+#[derive(Clone, Copy)]
+struct Found(Word);
+
+impl fmt::Display for Found {
+    fn fmt<W: fmt::Write>(&self, f: &mut fmt::Formatter<W>) -> fmt::Result {
+        let w = self.0;
+        let flips = Undone(w.flips);
+        let check_flips = w.check_flips;
+        let pad = if w.pad_wrong { "wrong" } else { "right" };
+        write!(
+            f,
+            "data {:012x}, {flips}, check flips {check_flips}, pad {pad}",
+            w.data
+        )
+    }
+}
+
+fn answered<T: fmt::Display + Drop>(rt: &HostRuntime, r: Result<T, Refusal>) -> io::Result<()> {
+    match r {
+        Ok(x) => println!(rt; ": {x}"),
+        Err(e) => println!(rt; ": {e}"),
+    }
+}
+
+fn make(rt: &HostRuntime, data: u64) -> io::Result<()> {
     print!(rt; "make {data:012x}")?;
-    match maker::make(data) {
-        Making::Frame(f) => println!(rt; ": frame {f:016x}"),
-        Making::Refused(n) => refusal(rt, n),
-    }
+    answered(rt, maker::make(data).map(Frame))
 }
 
-fn show_flips(rt: &HostRuntime, flips: Flips) -> io::Result<()> {
-    match flips {
-        Flips::Nowhere => print!(rt; ", no flips"),
-        Flips::One(a) => print!(rt; ", flip at {a}"),
-        Flips::Two(a, b) => print!(rt; ", flips at {a} and {b}"),
-    }
-}
-
-fn show_word(rt: &HostRuntime, w: Word) -> io::Result<()> {
-    let data = w.data;
-    let check_flips = w.check_flips;
-    let pad = if w.pad_wrong { "wrong" } else { "right" };
-    print!(rt; ": data {data:012x}")?;
-    show_flips(rt, w.flips)?;
-    println!(rt; ", check flips {check_flips}, pad {pad}")
-}
-
-fn show_read(rt: &HostRuntime, bits: u64) -> io::Result<()> {
+fn read(rt: &HostRuntime, bits: u64) -> io::Result<()> {
     print!(rt; "read {bits:016x}")?;
-    match reader::read(bits) {
-        Reading::Lawful(w) => show_word(rt, w),
-        Reading::Refused(n) => refusal(rt, n),
-    }
+    answered(rt, reader::read(bits).map(Found))
 }
 
 fn main(rt: HostRuntime) -> io::Result<()> {
-    show_make(&rt, 0)?;
-    show_make(&rt, 0xFFFF_FFFF_FFFF)?;
-    show_make(&rt, 0x0000_FFFF_0000)?;
-    show_make(&rt, 0x1_0000_0000_0000)?;
-    show_read(&rt, 0x0000_8000_4000_3565)?;
-    show_read(&rt, 0x8000_8000_4000_3567)?;
-    show_read(&rt, 0x0000_8000_4000_356B)?;
-    show_read(&rt, 0x0000_8000_4000_3564)?;
-    show_read(&rt, 0x0000_8000_4000_B565)?;
-    show_read(&rt, 0x8000_8400_4020_3565)?;
-    show_read(&rt, 0)?;
-    show_read(&rt, 0xFFFF_FFFF_FFFF_FFFF)
+    for data in [0, 0xFFFF_FFFF_FFFF, 0x0000_FFFF_0000, 0x1_0000_0000_0000] {
+        make(&rt, data)?;
+    }
+    for bits in [
+        0x0000_8000_4000_3565,
+        0x8000_8000_4000_3567,
+        0x0000_8000_4000_356B,
+        0x0000_8000_4000_3564,
+        0x0000_8000_4000_B565,
+        0x8000_8400_4020_3565,
+        0,
+        0xFFFF_FFFF_FFFF_FFFF,
+    ] {
+        read(&rt, bits)?;
+    }
+    Ok(())
 }

@@ -1,11 +1,11 @@
 -- The contract leaves one answer.
-use mathlib.Core.Path.{◌≡◌, refl, sym, ap, ap₂, ◌∙◌, subst}
+use mathlib.Core.Path.{◌≡◌, sym, ap, ap₂, ◌∙◌, subst}
 use mathlib.Core.Bool.{false}
 use mathlib.Core.List.{List}
 use Prim.Native.Nat.{ℕ}
 use lib.ListN.{get_or}
-use Rattle.paper.specs.Answer.{Answer, gives, refused}
-use Rattle.paper.proofs.Answer.{either, known_by}
+use Rattle.paper.specs.Answer.{Answer, gives, refused, answer}
+use Rattle.paper.proofs.Answer.{answer_one}
 use Rattle.laws.specs.Lent.{Lent, ◌over◌}
 use Rattle.laws.proofs.Truth.{is_true}
 use Rattle.laws.proofs.Writing.{one_each}
@@ -13,19 +13,10 @@ use Rattle.radix.specs.Octets.{bytes_of}
 use Rattle.filing.specs.File.{Capture, Holds}
 use Rattle.filing.proofs.Claims.{one_refusal, one_holds, not_both}
 use Rattle.salvage.specs.Fates.{Fate, altered_in, places_beside, refused_in}
-use Rattle.salvage.specs.Calls.{answer, frames_after, counts_of, any_short, Refusal, by_head, by_room, Salvage, Salvages}
+use Rattle.salvage.specs.Calls.{frames_after, counts_of, any_short, Refusal, by_head, by_room, Salvage, Salvages}
 use Rattle.salvage.specs.Claims.{OneSalvage}
 use Rattle.salvage.specs.declared.Counts.{Counts}
-use Rattle.salvage.specs.declared.Salvaged.{Salvaged}
-use Rattle.salvage.specs.declared.Salvaged.TheVariants.{Done, Refused}
 use Rattle.salvage.proofs.Clean.{one_fate}
-
-answer_one : (r s : Salvaged) → answer r ≡ answer s → r ≡ s
-answer_one = known_by answer (either Done Refused) back
-  where
-    back : (r : Salvaged) → either Done Refused (answer r) ≡ r
-    back (Done k) = refl
-    back (Refused n) = refl
 
 one_number : (bs is ps rs : List ℕ) (m n : ℕ) → Refusal bs is ps rs m → Refusal bs is ps rs n → m ≡ n
 one_number bs is ps rs m n (by_head p) (by_head q) = one_refusal bs m n p q

@@ -1,6 +1,5 @@
 -- What `salvage` owes: both counts and what it leaves, or the first refusal in the paper's order with all as it was.
 -- ┌─────────────────┬─────────────────────────────────────────────────────────────────┐
--- │ answer r        │ the answer that a `Salvaged` is                                 │
 -- │ frames_after ys │ the frames after, of fates                                      │
 -- │ counts_of ys    │ how many are altered, and how many refused                      │
 -- │ Shows ys F A P  │ the fates ys in the lent file F and the lists A, altered, P,    │
@@ -28,12 +27,6 @@ use Rattle.filing.specs.File.{Capture, Holds}
 use Rattle.filing.specs.Refused.{Refuses}
 use Rattle.salvage.specs.Fates.{Fate, Meets, altered_in, places_beside, refused_in}
 use Rattle.salvage.specs.declared.Counts.{Counts}
-use Rattle.salvage.specs.declared.Salvaged.{Salvaged}
-use Rattle.salvage.specs.declared.Salvaged.TheVariants.{Done, Refused}
-
-abbrev pub answer : Salvaged → Answer Counts
-answer (Done k) = gives k
-answer (Refused n) = refused n
 
 abbrev pub frames_after : List Fate → List ℕ
 frames_after ys = map (λ y. y.after) ys

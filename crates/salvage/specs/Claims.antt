@@ -20,8 +20,9 @@
 -- │ SecondRun       │ a second run, over lists that are as long, alters nothing and  │
 -- │                 │ refuses the same                                               │
 -- └─────────────────┴────────────────────────────────────────────────────────────────┘
-use Rattle.std.specs.Prelude.{◌≡◌, List, ◌⊎◌, ℕ, suc, ◌+◌, ◌*◌, ◌<◌, ◌≤◌, length, get_or, take, drop}
-use Rattle.paper.specs.Answer.{Answer, gives, refused}
+use Rattle.std.specs.Prelude.{◌≡◌, List, ◌⊎◌, ℕ, suc, ◌+◌, ◌*◌, ◌<◌, ◌≤◌, length, get_or, take, drop, Result}
+use Rattle.paper.specs.Answer.{Answer, gives, refused, answer}
+use Rattle.paper.specs.declared.Refusal.{Refusal}
 use Rattle.laws.specs.Bits.{bit, unlike}
 use Rattle.laws.specs.Lent.{Lent}
 use Rattle.radix.specs.Octets.{numbers_of}
@@ -30,9 +31,8 @@ use Rattle.frame.specs.Word.{FrameOf}
 use Rattle.decoding.specs.Found.{Found}
 use Rattle.decoding.specs.Reads.{Reads}
 use Rattle.maker.specs.Makes.{Makes}
-use Rattle.salvage.specs.Calls.{answer, Salvage, Salvages}
+use Rattle.salvage.specs.Calls.{Salvage, Salvages}
 use Rattle.salvage.specs.declared.Counts.{Counts}
-use Rattle.salvage.specs.declared.Salvaged.{Salvaged}
 
 abbrev pub frame_in : List ℕ → ℕ → ℕ
 frame_in bs i = get_or (numbers_of bs) i 0
@@ -45,7 +45,7 @@ Rises n l = (j : ℕ) → suc j < n → get_or l j 0 < get_or l (suc j) 0
 
 abbrev pub OneSalvage : Type 0
 OneSalvage =
-    (F F' A A' P P' R R' : Lent) (r s : Salvaged) → F.was ≡ F'.was → A.was ≡ A'.was → P.was ≡ P'.was → R.was ≡ R'.was
+    (F F' A A' P P' R R' : Lent) (r s : Result Counts Refusal) → F.was ≡ F'.was → A.was ≡ A'.was → P.was ≡ P'.was → R.was ≡ R'.was
     → Salvages F A P R (answer r) → Salvages F' A' P' R' (answer s)
     → (r ≡ s) × (F.is ≡ F'.is) × (A.is ≡ A'.is) × (P.is ≡ P'.is) × (R.is ≡ R'.is)
 

@@ -4,5 +4,4 @@ use Rattle.lane.proofs.see.Goals as goal
 
 pub returns : goal.returns
 returns c =
-    shown_of_bytes c.corrections-c.ensures c.byte_sums-b.ensures c.args.bytes.now
-    (λ i. (c.shared_slice_known-1.given i).fits) _ c.see_by.ensures
+    shown_of_bytes c.new.ensures.corrections c.new.ensures.sums c.args.bytes.now (λ i. (c.type_inv.bytes i).fits) _ c.see_by.ensures

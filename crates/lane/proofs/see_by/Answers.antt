@@ -12,8 +12,7 @@ use Rattle.reader.proofs.Turns.{shown_none, shown_turn, shown_end}
 use Rattle.lane.proofs.see_by.Goals as goal
 
 pub loop-i-init : goal.loop-i-init
-loop-i-init c =
-    record { here = omega arith; verdicts = shown_none; pads = shown_none; checks = shown_none; at-hand = c.number-frame.ensures }
+loop-i-init c = record { verdicts = shown_none; pads = shown_none; checks = shown_none; at_hand = c.number-frame.ensures }
 
 pub loop-i-preserved : goal.loop-i-preserved
 loop-i-preserved c =
@@ -21,15 +20,13 @@ loop-i-preserved c =
     let l = c.loop-i in
     let a = c.args in
     let bs = a.bytes.now in
-    let h = c.loop-i-test.true in
-    let k : l.i < length (numbers_of bs) = omega (arith, h, numbers_len (length bs / 8) bs 0) in
-    let e = ap (read_by a.c.now a.b.now) l.invariant.at-hand in
+    let k : l.i < length (numbers_of bs) = omega (arith, c.loop-i-test.true, numbers_len (length bs / 8) bs 0) in
+    let e = ap (read_by a.tables.now.corrections a.tables.now.sums) l.invariant.at_hand in
     record {
-      here = omega (arith, h);
       verdicts = shown_turn l.invariant.verdicts k e (ap (λ (x : Sight). x.verdict) s);
       pads = shown_turn l.invariant.pads k e (ap (λ (x : Sight). x.pad) s);
       checks = shown_turn l.invariant.checks k e (ap (λ (x : Sight). x.checks) s);
-      at-hand = c.number-frame-in-loop-i.ensures;
+      at_hand = c.number-frame-in-loop-i.ensures;
     }
 
 pub returns : goal.returns

@@ -1,6 +1,6 @@
 -- `host::captures::lks_capture_head` meets its contract: what `head` owes, told.
 use borrow.Author.Tests.{le-leb}
-use Rattle.capture.specs.Answers.{answer}
+use Rattle.paper.specs.Answer.{answer}
 use Rattle.host.proofs.Labels.{label_told}
 use Rattle.host.proofs.captures.lks_capture_head.Goals as goal
 

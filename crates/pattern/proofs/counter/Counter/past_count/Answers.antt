@@ -1,6 +1,6 @@
 -- In a state that is in its range no sum and no difference leaves its type.
 use native.Mathlib.Omega.{arith}
-use Rattle.pattern.proofs.Tests.{ltb_same}
+use Rattle.laws.proofs.Truth.{ltb_same}
 use Rattle.pattern.proofs.Sound.{sound}
 use Rattle.pattern.proofs.counter.Counter.past_count.Goals as goal
 

@@ -10,7 +10,7 @@ use Rattle.bus.specs.Rule.{in_range, plain, turned_over, crowded, changes}
 use Rattle.bus.specs.declared.Bus.{Bus}
 use Rattle.bus.proofs.Changes.{ones_changed, both_together}
 use Rattle.bus.proofs.Range.{in_range_lem}
-use Rattle.bus.proofs.crowded.Goals as goal
+use Rattle.bus.proofs.Bus.crowded.Goals as goal
 
 -- n is all wires as they are, and y what is to be sent
 module _ (b : Bus) (y n : ℕ) (e : n ≡ b.invert * 2 ^ b.width + b.wires) (h : in_range b ≡ true) (k : in_range (plain b.width y) ≡ true) where
@@ -24,12 +24,12 @@ module _ (b : Bus) (y n : ℕ) (e : n ≡ b.invert * 2 ^ b.width + b.wires) (h :
   both = omega (arith, counted, both_together b y h k)
 
 pub overflow_sub-result : goal.overflow_sub-result
-overflow_sub-result c = omega (arith, both c.args.b c.args.«data» _ c.all_wires.ensures c.requires.0 c.requires.1)
+overflow_sub-result c = omega (arith, both c.args.self c.args.«data» _ c.all_wires.ensures c.requires.0 c.requires.1)
 
 pub returns : goal.returns
 unfolding crowded
 returns c =
     let a = c.args in
-    let left : a.b.width + 1 - ones (bit_xor c.all_wires.result a.«data») ≡ changes a.b (turned_over a.b.width a.«data») =
-    omega (arith, both a.b a.«data» _ c.all_wires.ensures c.requires.0 c.requires.1) in
-    ap₂ ltb left (counted a.b a.«data» _ c.all_wires.ensures c.requires.0 c.requires.1)
+    let left : a.self.width + 1 - ones (bit_xor c.all_wires.result a.«data») ≡ changes a.self (turned_over a.self.width a.«data») =
+    omega (arith, both a.self a.«data» _ c.all_wires.ensures c.requires.0 c.requires.1) in
+    ap₂ ltb left (counted a.self a.«data» _ c.all_wires.ensures c.requires.0 c.requires.1)

@@ -21,6 +21,8 @@ pub(crate) fn put(place: &mut [u8], lane: u32, count: u64, distance: u64)
     octets::store(place, 2, distance);
 }
 
+// The three numbers are handed on as they stand in the trailer: a struct would name them once more for two functions.
+
 // Whether the distance is that of the first frame, with room for so many frames; the product is never taken.
 fn points_back(ahead: usize, count: u64, distance: u64) -> bool
     ensures { result ≡ pointing ahead count distance }

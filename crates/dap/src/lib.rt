@@ -15,6 +15,7 @@ use paper::Refusal;
 // The bytes of a copy at most.
 const MOST_COPIED: usize = 64;
 
+// What is damaged: nothing is one of the four findings.
 #[derive(Clone, Copy, Debug, PartialEq, Eq)]
 pub enum Damage {
     Nothing,

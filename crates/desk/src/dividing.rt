@@ -2,6 +2,7 @@
 ghost use Rattle.std.specs.Prelude.{IsErr};
 
 use crate::saying::{Said, cannot, refusal, say};
+use crate::steps::Dividend;
 use crate::{asking, steps};
 use input::Input;
 use std::io::{Print, Write};
@@ -42,7 +43,7 @@ fn show_frame(rt: &HostRuntime, frame: u64) -> std::io::Result<()> {
 fn written(rt: &HostRuntime, data: u64, frame: u64) -> std::io::Result<()> {
     let v = frame / 8192 * 4096;
     show_dividend(rt, data, v)?;
-    steps::show_steps(rt, v)?;
+    Dividend { v }.show_steps(rt)?;
     show_frame(rt, frame)?;
     rt.stdout().flush()
 }

@@ -40,7 +40,8 @@ pub(crate) fn create(rt: &HostRuntime, path: &[u8]) -> Result<File> {
     File::create(rt, named(path)?)
 }
 
-// The bytes in the file. What a file system takes back later it tells when it is asked to keep what it has; what is no file it does not keep.
+// The bytes in the file. What a file system takes back later it tells when it is asked to keep what it has; what is no file it does not
+// keep.
 pub(crate) fn fill(file: &mut File, bytes: &[u8]) -> Result<()> {
     file.write_all(bytes)?;
     match file.sync_data() {

@@ -16,6 +16,8 @@ mod salvaging;
 mod saying;
 mod steps;
 
+// A status is the number that the program ends with: that is what the entries answer and `Status` speaks of.
+
 // All of the work is done.
 const DONE: i32 = 0;
 
@@ -47,8 +49,8 @@ pub fn lks_listing(rt: &HostRuntime) -> i32
     status(listing::listing_of_file(rt))
 }
 
-// salvage IN OUT: the capture in the file IN, salvaged into the file OUT, and an account of it on standard output. `one` is not 0 where both
-// are one file, which is then not written.
+// salvage IN OUT: the capture in the file IN, salvaged into the file OUT, and an account of it on standard output. `one` is not 0 where
+// both are one file, which is then not written.
 pub fn lks_salvage(rt: &HostRuntime, one: i32) -> i32
     ensures { Status result }
 {

@@ -5,14 +5,11 @@ ghost use Rattle.desk.specs.Parts.{Shows};
 
 use std::io::{Print, Result};
 
-// What is left of v after j steps: the last 51 - j coefficients as they were, and the remainder of those that lead.
-fn left_after(v: u64, j: u64) -> u64
-    requires { (v < 2 ^ 63) × (j ≤ 51) }
-    ensures { result ≡ left_after v j }
-{
-    let m = 51 - j;
-    let leading = v >> m;
-    (poly::remainder(leading) << m) + (v - (leading << m))
+// What is divided: the coefficients of a word.
+#[derive(Clone, Copy, Debug, PartialEq, Eq)]
+pub(crate) struct Dividend {
+    pub(crate) v: u64,
+    ghost word: { v < 2 ^ 63 },
 }
 
 fn digit(n: u64) -> u8
@@ -25,6 +22,8 @@ fn digit(n: u64) -> u8
 fn tens(n: u64) -> u8 {
     if n < 10 { b' ' } else { digit(n / 10) }
 }
+
+// By hand: the columns are places of an array, as `Shows` has them.
 
 // What stands before the coefficients in the line of a step: its number, the power that it looks at and the coefficient a that it finds.
 fn front(step: u64, power: u64, a: u64) -> [u8; 16] {
@@ -61,31 +60,41 @@ pub(crate) fn show(rt: &HostRuntime, front: &[u8], r: u64, first: usize, end: us
     rt.write_all(&line[..end + 1])
 }
 
-// The lines of the step after j others: what it takes away, where it does, and what is left.
-fn show_step(rt: &HostRuntime, v: u64, j: u64) -> Result<()>
-    requires { (v < 2 ^ 63) × (j < 51) }
-{
-    let before = left_after(v, j);
-    let after = left_after(v, j + 1);
-    let a = (before >> (62 - j)) % 2;
-    if a == 1 {
-        show(
-            rt,
-            b"                ",
-            before ^ after,
-            j as usize,
-            (j + 13) as usize,
-        )?;
+impl Dividend {
+    // What is left after j steps: the last 51 - j coefficients as they were, and the remainder of those that lead.
+    fn left_after(self, j: u64) -> u64
+        requires { j ≤ 51 }
+        ensures { result ≡ left_after self.v j }
+    {
+        let m = 51 - j;
+        let leading = self.v >> m;
+        (poly::remainder(leading) << m) + (self.v - (leading << m))
     }
-    show(rt, &front(j + 1, 62 - j, a), after, (j + 1) as usize, 63)
-}
 
-// The lines of all 51 steps.
-pub(crate) fn show_steps(rt: &HostRuntime, v: u64) -> Result<()>
-    requires { v < 2 ^ 63 }
-{
-    for j in 0..51 {
-        show_step(rt, v, j)?;
+    // The lines of the step after j others: what it takes away, where it does, and what is left.
+    fn show_step(self, rt: &HostRuntime, j: u64) -> Result<()>
+        requires { j < 51 }
+    {
+        let before = self.left_after(j);
+        let after = self.left_after(j + 1);
+        let a = (before >> (62 - j)) % 2;
+        if a == 1 {
+            show(
+                rt,
+                b"                ",
+                before ^ after,
+                j as usize,
+                (j + 13) as usize,
+            )?;
+        }
+        show(rt, &front(j + 1, 62 - j, a), after, (j + 1) as usize, 63)
     }
-    Ok(())
+
+    // The lines of all 51 steps.
+    pub(crate) fn show_steps(self, rt: &HostRuntime) -> Result<()> {
+        for j in 0..51 {
+            self.show_step(rt, j)?;
+        }
+        Ok(())
+    }
 }

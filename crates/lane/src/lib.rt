@@ -40,18 +40,16 @@ fn with_frames(t: Tally, bytes: usize) -> Result<Totals, Refusal>
     })
 }
 
-// A frame is put together a turn before it is read, as in the list form on bytes.
+// The tables are lent, as lists of frames are read.
 fn see_by(tables: &Tables, bytes: &[u8], seen: &mut Sights)
     requires { Room (length bytes.now / 8) seen.old }
     ensures { SeesBy tables.now.corrections tables.now.sums bytes.now seen.old seen.new }
 {
-    let mut frame = octets::number(bytes, 0);
     for i in 0..bytes.len() / 8 {
-        let s = reader::sight_by(tables, frame);
+        let s = reader::sight_by(tables, octets::number(bytes, i));
         seen.verdicts[i] = s.verdict;
         seen.pads[i] = s.pad;
         seen.checks[i] = s.checks;
-        frame = octets::number(bytes, i + 1);
     }
 }
 

@@ -1,6 +1,6 @@
 -- That each call's contract leaves one answer.
 -- ┌──────────────┬─────────────────────────────────────────────────────────────┐
--- │ OneMaking    │ no second answer meets   the contract of `make`             │
+-- │ OneMaking    │ no second answer meets the contract   of `make`             │
 -- │ OneMadeList  │ nor a second answer or list that of `make_list`             │
 -- │ OneMadeBytes │ that of `make_bytes`                                        │
 -- └──────────────┴─────────────────────────────────────────────────────────────┘

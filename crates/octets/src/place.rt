@@ -6,12 +6,15 @@ ghost use Rattle.octets.specs.Calls.{there, inside, Gets, Puts};
 
 use paper::Refusal;
 
+// A number of n bytes stands at a place: `Gets` and `Puts` take both numbers, and so does each function here.
+
 fn there(at: usize, n: usize, len: usize) -> bool
     ensures { result ≡ there at n len }
 {
     1 <= n && n <= 8 && n <= len && at <= len - n
 }
 
+// By hand: what std has of the bytes of numbers is of fixed widths.
 fn gathered(bytes: &[u8], at: usize, n: usize) -> u64
     requires { (n ≤ 8) × (at + n ≤ length bytes.now) }
     ensures { result ≡ joined n bytes.now at }
@@ -41,7 +44,7 @@ fn inside(n: usize, x: u64) -> bool
     n == 8 || x >> (n * 8) == 0
 }
 
-// The lowest bytes of x, as many as `out` has, from its end on.
+// The lowest bytes of x, as many as `out` has, from its end on. By hand, as above.
 fn lay(out: &mut [u8], x: u64)
     ensures { out.new ≡ in_bytes (length out.old) x }
 {

@@ -22,8 +22,8 @@ fn exchange(x: u64, mask: u64, k: u64) -> u64
     x ^ t ^ (t << k)
 }
 
-// The high half at the odd bits, the low half at the even ones. The steps back are a function of their own: what differs is their order, and a
-// list of steps that is gone through from either end says it less plainly.
+// The high half at the odd bits, the low half at the even ones. The steps back are a function of their own: what differs is their
+// order, and a list of steps that is gone through from either end says it less plainly.
 pub(crate) fn shuffled(x: u64) -> u64
     ensures { Moved spread_from x result }
 {

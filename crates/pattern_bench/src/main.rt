@@ -2,10 +2,12 @@
 // pattern 31: fill or count. Each byte after it asks for a round of 4,096 bytes.
 #![tactic(auto)]
 
-use input::Input;
+ghost use Rattle.std.specs.Prelude.{◌≤◌, length};
+
 use paper::Refusal;
 use pattern::{Counter, Generator};
 use std::io;
+use std::io::Read;
 
 // The register after the rounds.
 fn fill_rounds(pattern: u8, rounds: usize) -> Result<u64, Refusal> {
@@ -38,13 +40,28 @@ fn answer(work: u8, rounds: usize) -> Result<u64, Refusal> {
     }
 }
 
+// Reads until the buffer is full, the input ends or a read fails; how many bytes are there. By hand: where a read fails, `load` of
+// input hands on the error and not how many bytes came before it; and a read hands over any number of bytes, so no range counts the
+// turns.
+fn filled<R: Read>(reader: &mut R, buffer: &mut [u8]) -> usize
+    ensures { result ≤ length buffer.new }
+{
+    let mut have = 0;
+    while have < buffer.len() {
+        let Ok(n) = reader.read(&mut buffer[have..]) else {
+            return have;
+        };
+        if n == 0 {
+            return have;
+        }
+        have += n;
+    }
+    have
+}
+
 fn main(rt: HostRuntime) -> io::Result<()> {
     let mut input = [0u8; 4096];
-    let n = match input::load(&mut rt.stdin(), &mut input) {
-        Ok(Input::Full) => input.len(),
-        Ok(Input::Last(n)) => n,
-        Err(_) => 0,
-    };
+    let n = filled(&mut rt.stdin(), &mut input);
     if 0 < n {
         let count = answer(input[0], n - 1).unwrap_or(0);
         println!(rt; "{count}")?;

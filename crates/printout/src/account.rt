@@ -14,14 +14,15 @@ pub struct Told {
     pub refused: usize,
 }
 
-// The length of a line, and how many have been told after it.
+// The length of a line, and how many have been told after it. No Option: where nothing is left the length is 0, as `Tells` has it.
 #[derive(Clone, Copy, Debug, PartialEq, Eq)]
 pub struct Step {
     pub length: usize,
     pub told: Told,
 }
 
-// Puts the lines of the totals at the start of `out`, and answers their length, 86 at most.
+// Puts the lines of the totals at the start of `out`, and answers their length, 86 at most. The array is lent, for `Prints` says
+// what stands behind the text.
 pub fn account_head(frames: u64, altered: u64, refused: u64, out: &mut [u8; 128]) -> usize
     ensures { Prints (account_head frames altered refused) out.old result out.new }
 {
@@ -39,7 +40,7 @@ fn hex_digit(d: u8) -> u8
     if d < 10 { b'0' + d } else { b'A' - 10 + d }
 }
 
-// The 16 hexadecimal digits of p. The last is put first.
+// The 16 hexadecimal digits of p. The last is put first. By hand: `hex16` is an array, and what formats a number writes to a text.
 pub fn hex_digits(p: u64) -> [u8; 16]
     ensures { result ≡ hex16 p }
 {

@@ -36,7 +36,8 @@ fn refused_lines(sheet: &mut Sheet<'_>, t: Tally)
     sheet.line(b"run-broken ", t.run_broken);
 }
 
-// Puts the listing of u at the start of `out`, and answers its length, 294 at most.
+// Puts the listing of u at the start of `out`, and answers its length, 294 at most. The array is lent, for `Says` says what stands
+// behind the text.
 pub fn text(u: Totals, out: &mut [u8; 512]) -> usize
     ensures { Says u out.old result out.new }
 {

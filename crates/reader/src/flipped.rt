@@ -19,30 +19,23 @@ pub(crate) fn flips_of(e: u64) -> Flips
     }
 }
 
-// 1 for a place, 0 for any other number.
-fn is_place(place: u64) -> u8
-    ensures { (result ≡ cond (ltb place 63) 1 0) × (result ≤ 1) }
+// 1 for a place before END, 0 for any other number.
+fn is_before<const END: u64>(place: u64) -> u8
+    ensures { (result ≡ cond (ltb place END) 1 0) × (result ≤ 1) }
 {
-    u8::from(place < 63)
+    u8::from(place < END)
 }
 
 #[tactic(auto, using(crate::proofs::Entries::count_places))]
 pub(crate) fn count_of(e: u64) -> u8
     ensures { result ≡ length (places e) }
 {
-    is_place(e / 64) + is_place(e % 64)
-}
-
-// 1 for a place before the check bits, 0 for any other number.
-fn is_early(place: u64) -> u8
-    ensures { (result ≡ cond (ltb place 51) 1 0) × (result ≤ 1) }
-{
-    u8::from(place < 51)
+    is_before::<63>(e / 64) + is_before::<63>(e % 64)
 }
 
 #[tactic(auto, using(crate::proofs::Entries::count_checks))]
 pub(crate) fn check_flips_of(e: u64) -> u8
     ensures { result ≡ check_flips (places e) }
 {
-    count_of(e) - is_early(e / 64) - is_early(e % 64)
+    count_of(e) - is_before::<51>(e / 64) - is_before::<51>(e % 64)
 }

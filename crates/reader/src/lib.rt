@@ -23,7 +23,7 @@ mod sums;
 pub use bytes::read_bytes;
 pub use sight::{Sight, sight_by};
 
-// The places of the flips that were undone, the lower first.
+// The places of the flips that were undone, the lower first: none, one or two.
 #[derive(Clone, Copy, Debug, PartialEq, Eq)]
 pub enum Flips {
     Nowhere,

@@ -10,7 +10,8 @@ use octets::Form;
 use paper::Refusal;
 use tables::Tables;
 
-// Each frame read into the outputs; a place that `pads` does not have is left out.
+// Each frame read into the outputs; a place that `pads` does not have is left out. Each output is lent by itself, as the public calls are
+// lent it: `ReadsList`, `ReadsPads` and `ReadsBytes` say of each what it is left as.
 fn read_each<F: Form>(
     tables: &Tables,
     frames: &[F],

@@ -13,7 +13,7 @@ ghost use Rattle.reader.specs.Parts.{mended, mending};
 use crate::{Word, said};
 use paper::Refusal;
 
-// The entry of no flips.
+// The entry of no flips. An entry is a number with places in it, as `MendTable` says of the table.
 const NO_FLIPS: u64 = 4095;
 
 #[derive(Clone, Copy, Debug, PartialEq, Eq)]
@@ -32,6 +32,8 @@ fn mask(e: u64) -> u64
 {
     (0x4000_0000_0000_0000u64 >> (e / 64)) ^ (0x4000_0000_0000_0000u64 >> (e % 64))
 }
+
+// Sums and frame stand side by side below: what is read by division has no table, and what is read by a table no division.
 
 // The word w with its right pad, reached from the frame by the flips of an entry.
 fn near(frame: u64, w: u64, entry: u64, runs: u64) -> Mended

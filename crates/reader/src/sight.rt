@@ -24,7 +24,7 @@ pub struct Sight {
     pub checks: u8,
 }
 
-// 1 for wrong.
+// 1 for wrong, of a frame as it came and of a mended one alike.
 fn flag_of(wrong: bool) -> u8
     ensures { result ≡ flag wrong }
 {

@@ -54,6 +54,7 @@ fn answered<T: fmt::Display + Drop>(rt: &HostRuntime, r: Result<T, Refusal>) -> 
     }
 }
 
+// The two calls are named one by one: each has its word, its digits and what it answers.
 fn make(rt: &HostRuntime, data: u64) -> io::Result<()> {
     print!(rt; "make {data:012x}")?;
     answered(rt, maker::make(data).map(Frame))

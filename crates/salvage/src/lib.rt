@@ -19,7 +19,8 @@ pub struct Counts {
     pub refused: usize,
 }
 
-// The capture in `file`, salvaged where it stands. Each list is to have room for as many entries as there are frames: 12 where it has not.
+// The capture in `file`, salvaged where it stands. Each list is to have room for as many entries as there are frames: 12 where it has
+// not. Three lists, as `Salvages` has them.
 pub fn salvage(
     file: &mut [u8],
     altered: &mut [u64],

@@ -9,6 +9,7 @@ ghost use Rattle.tally.specs.Parts.{told_of, Alike, Spare, Folds, Past, limited}
 use crate::Tally;
 use paper::{MOST_COUNTED, Refusal};
 
+// Verdicts are bytes, as lists show them: `Adds` is told such lists, with any byte in them.
 const NO_WORD: u8 = Refusal::NoWord as u8;
 
 const RUN_BROKEN: u8 = Refusal::RunBroken as u8;

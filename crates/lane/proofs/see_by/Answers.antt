@@ -1,5 +1,4 @@
--- `lane::see_by` meets its contract: after i turns the verdicts, flags and check flips of i frames stand at the front, and the next
--- frame is at hand.
+-- `lane::see_by` meets its contract: after i turns the verdicts, flags and check flips of i frames stand at the front.
 use mathlib.Core.Path.{ap}
 use Prim.Native.Nat.{◌/◌, ◌≤◌, ◌<◌}
 use native.Mathlib.Omega.{arith}
@@ -12,7 +11,7 @@ use Rattle.reader.proofs.Turns.{shown_none, shown_turn, shown_end}
 use Rattle.lane.proofs.see_by.Goals as goal
 
 pub loop-i-init : goal.loop-i-init
-loop-i-init c = record { verdicts = shown_none; pads = shown_none; checks = shown_none; at_hand = c.number-frame.ensures }
+loop-i-init c = record { verdicts = shown_none; pads = shown_none; checks = shown_none }
 
 pub loop-i-preserved : goal.loop-i-preserved
 loop-i-preserved c =
@@ -21,12 +20,11 @@ loop-i-preserved c =
     let a = c.args in
     let bs = a.bytes.now in
     let k : l.i < length (numbers_of bs) = omega (arith, c.loop-i-test.true, numbers_len (length bs / 8) bs 0) in
-    let e = ap (read_by a.tables.now.corrections a.tables.now.sums) l.invariant.at_hand in
+    let e = ap (read_by a.tables.now.corrections a.tables.now.sums) c.number.ensures in
     record {
       verdicts = shown_turn l.invariant.verdicts k e (ap (λ (x : Sight). x.verdict) s);
       pads = shown_turn l.invariant.pads k e (ap (λ (x : Sight). x.pad) s);
       checks = shown_turn l.invariant.checks k e (ap (λ (x : Sight). x.checks) s);
-      at_hand = c.number-frame-in-loop-i.ensures;
     }
 
 pub returns : goal.returns

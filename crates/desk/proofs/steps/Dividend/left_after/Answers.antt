@@ -5,7 +5,7 @@ use native.Mathlib.Nat.{mod-eq_of_lt}
 use Rattle.poly.specs.Poly.{rem}
 use Rattle.poly.proofs.Division.{rem_lt}
 use Rattle.poly.proofs.Steps.{leading_part}
-use Rattle.desk.proofs.steps.left_after.Goals as goal
+use Rattle.desk.proofs.steps.Dividend.left_after.Goals as goal
 
 -- the leading part, in its place
 placed : (v m : ℕ) → v < 2 ^ 63 → v / 2 ^ m * 2 ^ m % 2 ^ 64 ≡ v / 2 ^ m * 2 ^ m
@@ -26,10 +26,10 @@ overflow_add-result c =
 
 pub returns : goal.returns
 returns c =
-    let v = c.args.v in
+    let v = c.args.self.v in
     let j = c.args.j in
     let m = 51 - j in
-    let h = c.requires.0 in
+    let h : v < 2 ^ 63 = omega arith in
     ap₂ (λ (x y : ℕ). x * 2 ^ m % 2 ^ 64 + y) c.remainder.ensures (rest v m h)
     ∙ ap (λ (x : ℕ). x + v % 2 ^ m) (moved (rem 63 (v / 2 ^ m)) m (rem_lt 63 (v / 2 ^ m)) (omega arith)).0
     ∙ sym (leading_part v j m h (omega arith))

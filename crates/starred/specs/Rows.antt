@@ -11,22 +11,19 @@
 -- │ sends y x v │ a fresh bus of width 4 that is sent y drives x, invert v         │
 -- │ Rows        │ the table, each row under the paper's own words                  │
 -- └─────────────┴──────────────────────────────────────────────────────────────────┘
-use Rattle.std.specs.Prelude.{◌≡◌, [], ◌∷◌, ℕ, ◌-◌, ◌^◌}
+use Rattle.std.specs.Prelude.{◌≡◌, [], ◌∷◌, ℕ, ◌-◌, ◌^◌, Ok}
+use Rattle.paper.specs.Answer as paper
 use Rattle.paper.specs.Answer.{Answer, gives, refused}
 use Rattle.radix.specs.Octets.{bytes_of}
 use Rattle.decoding.specs.Found.{Found}
 use Rattle.reader.specs.Answers.{answer}
 use Rattle.decoding.specs.Reads.{Reads}
-use Rattle.maker.specs.Answers as maker
 use Rattle.maker.specs.Makes.{Makes}
 use Rattle.hier.specs.Calls as hier
-use Rattle.hier.specs.Answers.{coded, reading}
 use Rattle.hier.specs.declared.Decoded.{Decoded}
 use Rattle.bus.specs.Rule.{state}
-use Rattle.bus.specs.Answers.{driven}
 use Rattle.bus.specs.Calls.{Starts, Sends}
 use Rattle.bus.specs.declared.Bus.{Bus}
-use Rattle.bus.specs.declared.Driven.TheVariants.{Now}
 
 pub record Row {A E : Type 0} (C : E → Type 0) (f : E → Answer A) (a : Answer A) : Type 0 where
   pub some : E
@@ -34,19 +31,19 @@ pub record Row {A E : Type 0} (C : E → Type 0) (f : E → Answer A) (a : Answe
   pub only : (r : E) → C r → f r ≡ a
 
 abbrev pub makes : ℕ → ℕ → Type 0
-makes d f = Row (λ m. Makes d (maker.answer m)) maker.answer (gives f)
+makes d f = Row (λ m. Makes d (paper.answer m)) paper.answer (gives f)
 
 abbrev pub reads : ℕ → Answer Found → Type 0
 reads f a = Row (λ r. Reads f (answer r)) answer a
 
 abbrev pub codes : ℕ → Answer ℕ → Type 0
-codes d a = Row (hier.Makes d) coded a
+codes d a = Row (hier.Makes d) paper.answer a
 
 abbrev pub decodes : ℕ → Answer Decoded → Type 0
-decodes b a = Row (hier.Reads b) reading a
+decodes b a = Row (hier.Reads b) paper.answer a
 
 abbrev pub sends : ℕ → ℕ → ℕ → Type 0
-sends y x v = (b : Bus) → Starts 4 (Now b) → Row (Sends b y) driven (gives (state 4 x v))
+sends y x v = (b : Bus) → Starts 4 (Ok b) → Row (Sends b y) paper.answer (gives (state 4 x v))
 
 pub record Rows : Type 0 where
   -- data 0: frame 0000800040003565
@@ -72,11 +69,11 @@ pub record Rows : Type 0 where
   pub two_away : decodes 0x3335 (refused 15)
   pub v_is_8 : decodes 0x6653 (refused 16)
   -- bus width 4, each time from fresh, data 0011; 0111: 0011, invert 0; 1000, invert 1
-  pub bus_fresh : Row (Starts 4) driven (gives (state 4 0 0))
+  pub bus_fresh : Row (Starts 4) paper.answer (gives (state 4 0 0))
   pub bus_0011 : sends 0b0011 0b0011 0
   pub bus_0111 : sends 0b0111 0b1000 1
   -- 02, Q-3: width 4, wires 0000, invert 1, data 0011 sends 1100 with invert 1
-  pub bus_invert_1 : Row (Sends (state 4 0b0000 1) 0b0011) driven (gives (state 4 0b1100 1))
+  pub bus_invert_1 : Row (Sends (state 4 0b0000 1) 0b0011) paper.answer (gives (state 4 0b1100 1))
   -- ours, and not symmetric: data 000000001234: frame 00008000448D21B9, its eight bytes in this order, and back
   pub data_1234 : makes 0x1234 0x00008000448D21B9
   pub bytes_1234 : bytes_of (0x00008000448D21B9 ∷ []) ≡ 0x00 ∷ 0x00 ∷ 0x80 ∷ 0x00 ∷ 0x44 ∷ 0x8D ∷ 0x21 ∷ 0xB9 ∷ []

@@ -12,7 +12,7 @@
  *   - the buffers of one call do not overlap: what a call does with buffers that do is undefined, and it does not refuse them;
  *   - no other thread writes to them during the call, or reads those that the call writes.
  * Buffers need no alignment. Nothing is kept after the call, nothing is allocated, and no call has a state: any calls may run at the same
- * time, in any threads, on different buffers. A call needs at most 13.8 KB of stack; docs/C-INTERFACE.md says how much each.
+ * time, in any threads, on different buffers. A call needs at most 13.7 KB of stack; docs/C-INTERFACE.md says how much each.
  *
  * A refusal is a number of the paper's table and no other answer: every byte lent is then as it was before the call. Where refusals meet,
  * the one that stands first in the call's list below is given. Bytes of an output past the written ones always stay as they were.

@@ -30,6 +30,7 @@ pub fn read_bytes(file: &[u8], frames: &mut [u8]) -> Result<Label, Refusal>
     }
     let h = crate::head(file)?;
     let to = h.count * 8;
+    // As many as the file says, of the room that is lent.
     frames[..to].copy_from_slice(&file[..to]);
     Ok(h)
 }

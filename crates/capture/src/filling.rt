@@ -52,7 +52,7 @@ pub(crate) fn put_frames(frames: &[u64], out: &mut [u8])
     }
 }
 
-// Notes and trailer behind so many frames.
+// Notes and trailer behind so many frames. What a file is written from stays side by side, as `Writes` has it.
 pub(crate) fn finish(lane: u32, count: usize, notes: &[u8], out: &mut [u8])
     requires { (size_of count (length notes.now) ≤ length out.old) × (size_of count (length notes.now) ≤ most_bytes) }
     ensures { out.new ≡ finished out.old lane count notes.now }

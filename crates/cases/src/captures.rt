@@ -21,6 +21,7 @@ pub(crate) fn eights<'a>(bytes: &[u8], list: &'a mut [u64; 8192]) -> &'a [u64] {
     &list[..(bytes.len() / 8).min(8192)]
 }
 
+// The call is handed along with the case: which call it is, is no part of the case.
 fn written<T, F: FnOnce(u32, &[T], &[u8], &mut [u8]) -> Result<usize, Refusal>>(
     case: &Case,
     frames: &[T],

@@ -52,7 +52,7 @@ impl<'a> Case<'a> {
         most.min(self.half(field) as usize)
     }
 
-    // The front of a list, of a length that a field says.
+    // The front of a list, of a length that a field says: the arrays are of fixed length, since nothing allocates.
     pub(crate) fn front<'b, T>(&self, field: Field, list: &'b mut [T]) -> &'b mut [T] {
         let n = self.up_to(field, list.len());
         &mut list[..n]

@@ -40,6 +40,7 @@ fn turned(t: Tally, buffer: &[u8], loaded: std::io::Result<Input>) -> Result<Sta
 {
     match loaded.map_err(Stop::Unread)? {
         Input::Full => Ok(State::More(lane::count(t, buffer)?)),
+        // The buffer is of fixed length, and n bytes of it were read.
         Input::Last(n) => Ok(State::Done(lane::count(t, &buffer[..n])?)),
     }
 }

@@ -62,6 +62,7 @@ pub(crate) fn division_of_input(rt: &HostRuntime) -> Result<(), Said> {
     let mut text = [0u8; 19];
     let asked = match input::load(&mut rt.stdin(), &mut text) {
         Ok(Input::Full) => None,
+        // The buffer is of fixed length, and n bytes of it were read.
         Ok(Input::Last(n)) => asking::word_of(&text[..n]),
         Err(e) => return cannot(rt, b"division: cannot read ", b"standard input", e),
     };

@@ -68,5 +68,6 @@ pub(crate) fn argument<'a>(
     buffer: &'a mut [u8],
 ) -> Result<&'a mut [u8]> {
     let n = rt.arg(i, buffer).map_err(Nameless::from)?;
+    // The buffer is of fixed length, and n bytes of it are the argument.
     Ok(&mut buffer[..n])
 }

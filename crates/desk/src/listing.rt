@@ -25,6 +25,7 @@ fn written(rt: &HostRuntime, text: &[u8]) -> std::io::Result<()> {
 fn print(rt: &HostRuntime, u: Totals) -> Result<(), Said> {
     let mut text = [0u8; 512];
     let n = printout::text(u, &mut text);
+    // The array is of fixed length, and n bytes of it are the text.
     let listing = written(rt, &text[..n]);
     listing.or_else(|e| cannot(rt, b"listing: cannot write ", b"the whole listing", e))
 }

@@ -32,6 +32,7 @@ impl Account<'_> {
         let refused = self.refused.len() as u64;
         let mut text = [0u8; 128];
         let n = printout::account_head(self.frames, altered, refused, &mut text);
+        // The array is of fixed length, and n bytes of it are the text.
         rt.write_all(&text[..n])
     }
 

@@ -95,6 +95,7 @@ fn salvage_of_open(
     let mut file = [0u8; 65537];
     match input::load(&mut opened, &mut file) {
         Ok(Input::Full) => salvage_of(rt, &mut file, to),
+        // The buffer is of fixed length, and n bytes of it were read.
         Ok(Input::Last(n)) => salvage_of(rt, &mut file[..n], to),
         Err(e) => cannot(rt, b"salvage: cannot read ", from, e),
     }

@@ -38,6 +38,7 @@ impl<'a> Sheet<'a> {
         let mut digits = [0u8; 20];
         let k = io::decimal(n, &mut digits);
         self.put(name);
+        // Twenty places are lent, since nothing allocates, and k of them filled.
         self.put(&digits[..k]);
     }
 

@@ -10,7 +10,7 @@ use crate::lists::Lists;
 use crate::places::places_by;
 use tables::Tables;
 
-// Frame n meets its fate: where it has places it is altered there and told, where it is refused it is told alone.
+// The file is not one of the lists: what is read of it is written to it. Frame n meets its fate: where it has places it is altered there and told, where it is refused it is told alone.
 fn settle(tables: &Tables, n: usize, file: &mut [u8], lists: &mut Lists)
     requires { Spare lists.old }
     ensures same { Same lists.old lists.new }

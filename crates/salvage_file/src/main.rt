@@ -27,6 +27,7 @@ fn is_asked_of_one(rt: &HostRuntime) -> bool {
     let mut from = [0u8; 4096];
     let mut to = [0u8; 4096];
     match (rt.arg(1, &mut from), rt.arg(2, &mut to)) {
+        // The buffers are of fixed length, and so many bytes of each are the name.
         (Ok(n), Ok(m)) => are_one_file(rt, &from[..n], &to[..m]),
         _ => false,
     }

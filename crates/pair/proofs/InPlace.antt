@@ -2,7 +2,8 @@
 -- ┌─────────────┬─────────────────────────────────────────────────────────────┐
 -- │ Read        │ list and verdicts after i turns, as they came               │
 -- │ read_none   │ before the first turn                                       │
--- │ next_number │ the frame to be read next stands there as it came           │
+-- │ there       │ the frame to be read next is there                          │
+-- │ next_number │ and it stands there as it came                              │
 -- │ read_turn   │ one frame read                                              │
 -- │ read_end    │ after the last turn                                         │
 -- │ pass        │ two passes over a list: the frames of the words, then their │
@@ -66,6 +67,16 @@ module _ {A : Type 0} {numbers : List A → List ℕ} {laid : List ℕ → List 
   module _ {o : List A} {v : List ℕ} {i : ℕ} (r : Read numbers laid c b n o₀ v₀ o v i) where
     few : i < n → i < length (take n (numbers o₀))
     few h = omega (arith, h, length-take-le n (numbers o₀) room)
+
+    pub there : i < n → i < length (numbers o)
+    there h =
+        omega (
+          arith,
+          h,
+          room,
+          ap (λ (l : List A). length (numbers l)) r.list
+              ∙ laws.size (map data_in (map (read_by c b) (take i (take n (numbers o₀))))) o₀,
+        )
 
     pub next_number : i < n → get_or (numbers o) i 0 ≡ get_or (take n (numbers o₀)) i 0
     next_number h =

@@ -3,3 +3,4 @@ pub mod Lines
 pub mod Turns
 pub mod InPlace
 pub mod OneAnswer
+pub mod There

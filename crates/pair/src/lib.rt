@@ -12,6 +12,7 @@ use paper::Refusal;
 mod bits;
 mod bytes;
 mod lists;
+mod within;
 
 pub use bytes::{make_pairs_bytes, read_pairs_bytes};
 

@@ -17,7 +17,7 @@ loop-k-preserved g c =
     let k = c.loop-k.k in
     let here : k < length xs / 2 = omega (arith, c.loop-k-test.true, c.count-k-end.ensures) in
     let turned =
-    subst (λ (p : Pair ℕ). g.W.Way.Turns p (as_pair c.turned.result)) (λ i. pair (c.number.ensures i) (c.number-in-loop-k.ensures i)) c.turned.ensures in (
+    subst (λ (p : Pair ℕ). g.W.Way.Turns p (as_pair c.turned.result)) (λ i. pair (c.taken.ensures i) (c.taken-in-loop-k.ensures i)) c.turned.ensures in (
       omega (arith, here),
       subst (After g.F.Form.laid g.W.Way.Turns xs c.args.out.now (k + 1)) (sym c.put_two.ensures)
           (turn g.met.F.Form.laws c.loop-k.invariant.1 here c.requires turned),

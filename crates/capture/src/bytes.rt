@@ -16,7 +16,7 @@ pub fn write_bytes(lane: u32, frames: &[u8], notes: &[u8], out: &mut [u8]) -> Re
     }
     let count = frames.len() / 8;
     let n = filling::fit(count, notes.len(), out.len())?;
-    out[..frames.len()].copy_from_slice(frames);
+    filling::copy(frames, out);
     filling::finish(lane, count, notes, out);
     Ok(n)
 }
@@ -30,7 +30,6 @@ pub fn read_bytes(file: &[u8], frames: &mut [u8]) -> Result<Label, Refusal>
     }
     let h = crate::head(file)?;
     let to = h.count * 8;
-    // As many as the file says, of the room that is lent.
-    frames[..to].copy_from_slice(&file[..to]);
+    filling::copy(&file[..to], frames);
     Ok(h)
 }

@@ -52,6 +52,16 @@ pub(crate) fn put_frames(frames: &[u64], out: &mut [u8])
     }
 }
 
+// Bytes at the start of a lent output. One by one: `copy_from_slice` would have the archive for C ask its program for `memmove`.
+pub(crate) fn copy(from: &[u8], to: &mut [u8])
+    requires { length from.now ≤ length to.old }
+    ensures { to.new ≡ from.now over to.old }
+{
+    for (i, x) in from.iter().enumerate() {
+        to[i] = *x;
+    }
+}
+
 // Notes and trailer behind so many frames. What a file is written from stays side by side, as `Writes` has it.
 pub(crate) fn finish(lane: u32, count: usize, notes: &[u8], out: &mut [u8])
     requires { (size_of count (length notes.now) ≤ length out.old) × (size_of count (length notes.now) ≤ most_bytes) }
@@ -59,7 +69,7 @@ pub(crate) fn finish(lane: u32, count: usize, notes: &[u8], out: &mut [u8])
 {
     let from = count * 8;
     let to = from + notes.len();
-    out[from..to].copy_from_slice(notes);
+    copy(notes, &mut out[from..to]);
     crate::trailer::put(
         &mut out[to..to + crate::TRAILER_BYTES],
         lane,

@@ -1,5 +1,5 @@
 -- `capture::bytes::write_bytes` meets its contract, as `write` does: whole eights are the bytes of their numbers.
-use mathlib.Core.Path.{refl, ap, ◌∙◌}
+use mathlib.Core.Path.{ap, ◌∙◌}
 use mathlib.Core.List.{List, ◌++◌}
 use Prim.Native.Nat.{ℕ, ◌*◌, ◌/◌}
 use native.Mathlib.Omega.{arith}
@@ -7,8 +7,7 @@ use lib.ListN.{length, take}
 use Rattle.std.proofs.lemmas.Result.{err_from_is_err_and}
 use Rattle.laws.specs.Lent.{◌over◌}
 use Rattle.capture.specs.Parts.{ending}
-use Rattle.capture.proofs.Fronts.{front_over}
-use Rattle.capture.proofs.Writes.{fits, bytes_refuse, bytes_file}
+use Rattle.capture.proofs.Writes.{bytes_refuse, bytes_file}
 use Rattle.capture.proofs.bytes.write_bytes.Goals as goal
 
 pub returns-in_err-n : goal.returns-in_err-n
@@ -21,9 +20,6 @@ pub returns : goal.returns
 returns c =
     let a = c.args in
     let n = length a.frames.now / 8 in
-    let w = fits n (length a.notes.now) (length a.out.now) c.in_ok-n.n c.in_ok-n.ensures in
     bytes_file a.lane a.frames.now a.notes.now a.out.now c.if-frames-ne0.false (λ i. omega (arith, c.type_inv.frames i))
     c.in_ok-n.n c.finish.new.out c.in_ok-n.ensures
-    (c.finish.ensures ∙ ap (λ (o : List ℕ). (take (n * 8) o ++ ending a.lane n a.notes.now) over o)
-    (front_over _ a.frames.now a.out.now _ c.copy_from_slice.ensures.after refl
-    (omega (arith, w.room, c.if-frames-ne0.false))))
+    (c.finish.ensures ∙ ap (λ (o : List ℕ). (take (n * 8) o ++ ending a.lane n a.notes.now) over o) c.copy.ensures)

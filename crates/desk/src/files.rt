@@ -1,4 +1,6 @@
 // Files, by the bytes of their names, and the programs' arguments.
+ghost use Rattle.std.specs.Prelude.{◌≤◌, length, IfOk};
+
 use std::env::{Env, FillError};
 use std::fs::{File, OpenFile};
 use std::io::{Error, ErrorKind, Result, Write};
@@ -62,11 +64,9 @@ pub(crate) fn are_two(rt: &HostRuntime) -> bool {
 }
 
 // The argument of that number, a part of the buffer, or why it cannot be had.
-pub(crate) fn argument<'a>(
-    rt: &HostRuntime,
-    i: usize,
-    buffer: &'a mut [u8],
-) -> Result<&'a mut [u8]> {
+pub(crate) fn argument<'a>(rt: &HostRuntime, i: usize, buffer: &'a mut [u8]) -> Result<&'a mut [u8]>
+    ensures { IfOk result (λ part. length part.now ≤ length buffer.old) }
+{
     let n = rt.arg(i, buffer).map_err(Nameless::from)?;
     // The buffer is of fixed length, and n bytes of it are the argument.
     Ok(&mut buffer[..n])

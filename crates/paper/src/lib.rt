@@ -1,7 +1,8 @@
 // The numbers that the paper fixes for more than one crate: its refusals and its limits. specs/Numbers has them by the same names.
 #![tactic(auto)]
 
-ghost use Rattle.std.specs.Prelude.{◌≡◌};
+ghost use Rattle.std.specs.Prelude.{◌≡◌, Some};
+ghost use Rattle.std.specs.Fmt.{decimal, styled_decimal};
 ghost use Rattle.paper.specs.Answer.{code, answer, number_of};
 
 use std::error::Error;
@@ -41,6 +42,10 @@ impl Refusal {
 
 // A refusal is shown as its number.
 impl fmt::Display for Refusal {
+    ghost output = { λ r. Some (decimal (code r)) };
+
+    ghost styled_output = { λ r s. Some (styled_decimal s (code r)) };
+
     fn fmt<W: fmt::Write>(&self, f: &mut fmt::Formatter<W>) -> fmt::Result {
         self.code().fmt(f)
     }

@@ -54,13 +54,12 @@ bytes_laws =
       again = λ xs ys o h. over_over (bytes_of xs) (bytes_of ys) o (omega (arith, length_bytes xs, length_bytes ys, h));
     }
 
-past : (ys o : List ℕ) (i : ℕ) → length ys ≡ i → get_or (ys over o) i 0 ≡ get_or o i 0
+over_behind : (ys out : List ℕ) (i d : ℕ) → length ys ≤ i → get_or (ys over out) i d ≡ get_or out i d
 unfolding ◌over◌
-past [] [] i e = refl
-past [] (o ∷ os) i e = refl
-past (y ∷ ys) [] i e = refl
-past (y ∷ ys) (o ∷ os) zero e = absurd (omega (arith, e))
-past (y ∷ ys) (o ∷ os) (suc i) e = past ys os i (omega (arith, e))
+over_behind ys [] i d h = refl
+over_behind [] (o ∷ out) i d h = refl
+over_behind (y ∷ ys) (o ∷ out) zero d h = absurd (not-suc-le-zero h)
+over_behind (y ∷ ys) (o ∷ out) (suc i) d h = over_behind ys out i d (le_of_suc-le-suc h)
 
 pub numbers_laws : FormLaws same_numbers numbers_over set_number
 numbers_laws =
@@ -68,7 +67,7 @@ numbers_laws =
       none = over_none;
       more = λ ys o i x e h. ap (λ (n : ℕ). set (ys over o) n x) (sym e) ∙ over_more ys o x;
       size = over_length;
-      behind = λ ys o i e h. past ys o i e;
+      behind = λ ys o i e h. over_behind ys o i 0 (omega (arith, e));
       front = λ ys o n h e l. over_take ys o n (sym e) (omega (arith, e, l));
       again = over_over;
     }
